@@ -1,0 +1,9 @@
+mod Places
+mod Digits
+mod Prefix
+mod Choice
+mod Jumps
+mod Guards
+mod Reverts
+mod Lengths
+mod Denses

@@ -1,0 +1,22 @@
+-- The numbers of document 01, by the names that the definitions use. Assumes nothing.
+use Prim.Native.Nat.{ℕ}
+
+-- bytes of an EVM word (Yellow Paper, 9.1: "The word size of the machine (and thus size of stack items) is 256-bit")
+abbrev pub wordBytes : ℕ
+wordBytes = 32
+
+-- bytes of the selector (ABI specification, "Function Selector": "The first four bytes of the call data")
+abbrev pub selectorBytes : ℕ
+selectorBytes = 4
+
+-- "160 of them address"
+abbrev pub addressBits : ℕ
+addressBits = 160
+
+-- "Count is 1 to 99 for an array"
+abbrev pub arrayCountMax : ℕ
+arrayCountMax = 99
+
+-- "a bound of 1 to 255 inclusive"
+abbrev pub rangeBoundMax : ℕ
+rangeBoundMax = 255

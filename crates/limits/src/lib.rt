@@ -1,0 +1,18 @@
+// The numbers of document 01, each named once for the code; specs/ has the same names for the definitions.
+// A number joins this list with the first function that needs it.
+pub mod codes;
+
+// Bytes of an EVM word. Keys, offsets and multipliers count in bytes, arguments and counts in words.
+pub const WORD_BYTES: u32 = 32;
+
+// Bytes of the selector, which stand before the first argument word.
+pub const SELECTOR_BYTES: u32 = 4;
+
+// "160 of them address": bits of an address.
+pub const ADDRESS_BITS: u32 = 160;
+
+// "Count is 1 to 99 for an array": the largest multiplier is this many words.
+pub const ARRAY_COUNT_MAX: u32 = 99;
+
+// "a bound of 1 to 255 inclusive": the largest bound of the range rule.
+pub const RANGE_BOUND_MAX: u32 = 255;

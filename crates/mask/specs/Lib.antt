@@ -1,0 +1,3 @@
+pub mod Mask
+pub mod Readings
+pub mod Run

@@ -1,0 +1,2 @@
+mod Push
+mod Table
