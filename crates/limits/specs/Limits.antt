@@ -20,3 +20,7 @@ arrayCountMax = 99
 -- "a bound of 1 to 255 inclusive"
 abbrev pub rangeBoundMax : ℕ
 rangeBoundMax = 255
+
+-- "at most 8,192 codes"
+abbrev pub codesMax : ℕ
+codesMax = 8192

@@ -16,3 +16,6 @@ pub const ARRAY_COUNT_MAX: u32 = 99;
 
 // "a bound of 1 to 255 inclusive": the largest bound of the range rule.
 pub const RANGE_BOUND_MAX: u32 = 255;
+
+// "at most 8,192 codes": the longest list.
+pub const CODES_MAX: usize = 8192;

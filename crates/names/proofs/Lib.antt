@@ -1,0 +1,2 @@
+mod Ranges
+pub mod Codes

@@ -1,0 +1,2 @@
+pub mod Elementary
+pub mod Text

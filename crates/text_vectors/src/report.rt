@@ -1,0 +1,73 @@
+// One line's end for an answer.
+ghost use mathlib.Core.Path.{_≡_};
+ghost use Prim.Native.Nat.{_≤_, _<_};
+use libc::STDOUT_FILENO;
+use text::TextAnswer;
+
+fn put(text: &[u8]) {
+    io::write_all(STDOUT_FILENO, text);
+}
+
+fn put_number(n: u64) {
+    put(b" ");
+    io::print_decimal(STDOUT_FILENO, n);
+}
+
+// A sum over bytes and places, to tell long texts apart.
+fn sum(out: &[u8]) -> u64 {
+    let mut s: u64 = 0;
+    let mut i = 0;
+    while i < out.len() {
+        s = (s * 31 + out[i] as u64) % 1_000_000_007;
+        i += 1;
+    }
+    s
+}
+
+// Are all bytes from an index on as they were filled?
+fn kept(out: &[u8], from: usize) -> bool {
+    let mut i = from;
+    while i < out.len() {
+        if out[i] != 35 {
+            return false;
+        }
+        i += 1;
+    }
+    true
+}
+
+fn put_kept(out: &[u8], from: usize) {
+    if kept(out, from) {
+        put(b" kept");
+    } else {
+        put(b" CHANGED");
+    }
+}
+
+fn put_text(out: &[u8], n: usize) {
+    if out.len() < n {
+        return;
+    }
+    put_number(n as u64);
+    put(b" ");
+    if n <= 120 {
+        put(&out[0..n]);
+    } else {
+        io::print_decimal(STDOUT_FILENO, sum(&out[0..n]));
+    }
+    put_kept(out, n);
+}
+
+pub fn report(answer: TextAnswer, out: &[u8]) {
+    match answer {
+        TextAnswer::Written(n) => put_text(out, n),
+        TextAnswer::NotTypes => {
+            put(b" refused 10");
+            put_kept(out, 0);
+        }
+        TextAnswer::TooLong => {
+            put(b" refused 11");
+            put_kept(out, 0);
+        }
+    }
+}

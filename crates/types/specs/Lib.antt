@@ -1,0 +1,4 @@
+pub mod Tree
+pub mod Codes
+pub mod Text
+pub mod Kind
