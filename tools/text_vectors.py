@@ -68,10 +68,11 @@ def answer(codes, room):
 VECTORS = []
 
 
-def add(label, codes, room=65536):
-    runs = [(len(list(g)), c) for c, g in itertools.groupby(codes)]
-    assert len(label) < 40 and len(runs) <= 36, (label, len(runs))
-    VECTORS.append((label, codes, runs, room))
+def add(label, codes, room=65535, block=(), times=0):
+    """the codes; those of a block so many times, first"""
+    runs, first = ([(len(list(g)), c) for c, g in itertools.groupby(part)] for part in (codes, block))
+    assert len(label) < 40 and len(first) + len(runs) <= 36 and room < 65536, (label, len(runs))
+    VECTORS.append((label, list(block) * times + codes, first + runs, room, len(first), times))
 
 
 def signatures():
@@ -85,6 +86,9 @@ def signatures():
     s = t(u256, [ARRAY] + u256, [ARRAY] + t(u256, u256))
     add('f(S,T,uint256)', s + t(u256, u256) + u256)  # struct S {uint256 a; uint256[] b; T[] c;}, struct T {uint256 x; uint256 y;}
     add('transfer(address,uint256)', [ADDRESS] + u256)
+    add('InsufficientBalance(uint256,uint256)', u256 + u256)
+    add('foo(uint256)', u256)
+    add('Event(uint256,bytes32)', u256 + [FIXED + 32])
     add('the empty list', [])
 
 
@@ -93,7 +97,7 @@ def widths():
         add(f'uint of {n} bytes', [UINT + 8 * n])
         add(f'int of {n} bytes', [INT + 8 * n])
         add(f'fixed bytes {n}', [FIXED + n])
-    for code in (0, 1, 2, 3, 4, 6, 7, 999, 1000, 1007, 1009, 1257, 1999, 2257, 2999, 3033, 16383, 16384, 16385, 24576, 65535):
+    for code in (0, 1, 2, 3, 4, 6, 7, 999, 1000, 1007, 1009, 1257, 1999, 2007, 2009, 2257, 2999, 3033, 16383, 16384, 16385, 24576, 65535):
         add(f'code {code}', [code])
 
 
@@ -101,6 +105,10 @@ def shapes():
     u = UINT + 256
     add('array of nothing', [ARRAY])
     add('array with a type behind', [ARRAY, u, u])
+    add('an array begins behind', [BOOL, ARRAY])
+    add('a tuple begins behind', [BOOL, TUPLE + 2])
+    add('no code behind', [BOOL, 0])
+    add('array of no code', [ARRAY, 0])
     add('tuple of 0', [TUPLE])
     add('tuple of 1', [TUPLE + 1, u])
     add('tuple of 2', [TUPLE + 2, u, BOOL])
@@ -121,12 +129,19 @@ def limits():
         add(f'{n} arrays deep', [ARRAY] * n + [BOOL])
         add(f'{n} entries bool', [BOOL] * n)
         add(f'tuple of {n}', [TUPLE + n] + [UINT + 256] * n)
-    for n in (511, 2047, 4095, 4096):
+    for n in (511, 1023, 2047, 4095, 4096):
         # ((..(bool,bool),bool)..,bool): the first part of each tuple is the next tuple
-        add(f'{n} tuples deep', [TUPLE + 2] * n + [BOOL] * (n + 1))
+        add(f'{n} tuples deep, first parts', [TUPLE + 2] * n + [BOOL] * (n + 1))
+        # (bool,(bool,..(bool,bool)..)): the last part of each is, and all close behind one code
+        add(f'{n} tuples deep, last parts', [BOOL], block=(TUPLE + 2, BOOL), times=n)
+        # (bool,(bool,..)[])[]: an array around each
+        add(f'{n * 2 // 3} tuples in arrays deep', [BOOL], block=(ARRAY, TUPLE + 2, BOOL), times=n * 2 // 3)
     add('8193 codes', [BOOL] * 8193)
+    add('8193 codes in no room', [BOOL] * 8193, 0)
+    add('8192 codes, the last wants a part', [BOOL] * 8190 + [TUPLE + 2, BOOL])
+    add('8192 codes, the last is an array', [BOOL] * 8191 + [ARRAY])
     add('8192 codes of the longest text', [UINT + 256] * 8192)
-    for room in (0, 1, 21, 22, 23):
+    for room in (0, 1, 19, 20, 21, 22):
         add(f'uint256[],(bool,int8) in {room}', [ARRAY, UINT + 256, TUPLE + 2, BOOL, INT + 8], room)
     add('no text in no room', [], 0)
     add('8192 longest, one byte short', [UINT + 256] * 8192, 8192 * 8 - 2)
@@ -157,14 +172,14 @@ def random_lists():
         if len(list(itertools.groupby(codes))) > 36:
             continue
         t = text(codes)
-        room = 65536 if r.random() < 0.7 or t is None else max(0, len(t) + r.randint(-2, 1))
+        room = 65535 if r.random() < 0.7 or t is None else max(0, len(t) + r.randint(-2, 1))
         add(f'random {made}', codes, room)
         made += 1
 
 
 def packed_form(v):
-    label, codes, runs, room = v
-    head = label.encode().ljust(40, b'\0') + bytes([len(label), len(runs), 0, 0]) + struct.pack('>I', room)
+    label, codes, runs, room, block, times = v
+    head = label.encode().ljust(40, b'\0') + bytes([len(label), len(runs), block, 0]) + struct.pack('>HH', times, room)
     return (head + b''.join(struct.pack('>HH', n, c) for n, c in runs)).ljust(192, b'\0')
 
 
@@ -173,7 +188,7 @@ for make in (signatures, widths, shapes, limits, random_lists):
 if sys.argv[1:] == ['stdin']:
     sys.stdout.buffer.write(b''.join(map(packed_form, VECTORS)))
 elif sys.argv[1:] == ['stdout']:
-    for label, codes, runs, room in VECTORS:
+    for label, codes, runs, room, block, times in VECTORS:
         print(label, answer(codes, room))
 else:
     sys.exit(__doc__)

@@ -9,18 +9,11 @@ use crate::vector::second_word;
 use code::Place;
 use code::Words;
 use libc::STDOUT_FILENO;
+use vectors::put;
+use vectors::put_number;
 use word::Kept;
 use word::Multiplier;
 use word::U256;
-
-fn put(text: &[u8]) {
-    io::write_all(STDOUT_FILENO, text);
-}
-
-fn put_number(n: u32) {
-    put(b" ");
-    io::print_decimal(STDOUT_FILENO, n as u64);
-}
 
 fn put_bool(b: bool) {
     if b {
@@ -50,7 +43,7 @@ fn put_word(x: U256) {
 
 fn put_kept(k: Kept) {
     match k {
-        Kept::Number(n) => put_number(n),
+        Kept::Number(n) => put_number(n as u64),
         Kept::TooLarge => put(b" not kept"),
     }
 }
@@ -59,31 +52,28 @@ fn put_multiplier(m: Multiplier) {
     match m {
         Multiplier::One => put(b" one"),
         Multiplier::Two => put(b" two"),
-        Multiplier::Array(n) => put_number(n),
+        Multiplier::Array(n) => put_number(n as u64),
         Multiplier::Other => put(b" other"),
     }
 }
 
 fn put_place(p: Place) {
     match p {
-        Place::At(at) => {
-            put(b" ");
-            io::print_decimal(STDOUT_FILENO, at as u64);
-        }
+        Place::At(at) => put_number(at as u64),
         Place::Nowhere => put(b" none"),
     }
 }
 
 fn put_words(w: Words) {
     match w {
-        Words::Count(n) => put_number(n),
+        Words::Count(n) => put_number(n as u64),
         Words::Nothing => put(b" none"),
     }
 }
 
 fn answer_word(kind: u8, x: U256, y: U256, n: u32, flag: bool) {
     match kind {
-        1 => put_number(mask::and_mask_to_type(x)),
+        1 => put_number(mask::and_mask_to_type(x) as u64),
         2 => put_kept(word::sum::keep(x)),
         3 => put_kept(word::sum::add_kept(x, n)),
         4 => put_word(word::sum::add(x, y)),
@@ -103,8 +93,7 @@ fn answer_opcode(op: u8) {
     put_bool(opcode::clears_operands(op));
     put_bool(opcode::ends_decoder(op));
     put_bool(opcode::needs_slot(op));
-    put(b" ");
-    io::print_decimal(STDOUT_FILENO, opcode::push_size(op) as u64);
+    put_number(opcode::push_size(op) as u64);
 }
 
 fn answer_code(kind: u8, code: &[u8], pc: u32, flag: bool, packed: U256) {

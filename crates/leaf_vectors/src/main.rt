@@ -6,14 +6,8 @@ mod vector;
 
 use answer::answer;
 use libc::STDIN_FILENO;
-use libc::STDOUT_FILENO;
-use vector::name_length;
-
-fn put_name(v: &[u8; 192]) {
-    let n = name_length(v);
-    let all: &[u8] = v;
-    io::write_all(STDOUT_FILENO, &all[0..n]);
-}
+use vectors::put;
+use vectors::put_name;
 
 // One vector; false at the end of the input.
 fn run_one() -> bool {
@@ -22,9 +16,10 @@ fn run_one() -> bool {
     if got < 192 {
         return false;
     }
-    put_name(&v);
+    let length = v[43];
+    put_name(&v, length);
     answer(&v);
-    io::write_all(STDOUT_FILENO, b"\n");
+    put(b"\n");
     true
 }
 

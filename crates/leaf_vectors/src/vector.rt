@@ -1,15 +1,10 @@
 // The fields of a vector.
 ghost use Prim.Native.Nat.{_≤_, _<_};
+use vectors::wide;
 use word::U256;
 use word::numbers::from_numbers;
 
 pub const CODE: usize = 112;
-
-fn wide(b: u8) -> u32
-    ensures { λ r. ⌜ r < 256 ⌝ }
-{
-    b as u32
-}
 
 pub fn kind(v: &[u8; 192]) -> u8 {
     v[40]
@@ -20,13 +15,6 @@ pub fn code_length(v: &[u8; 192]) -> usize
 {
     let n = wide(v[41]) as usize;
     if n < 80 { n } else { 80 }
-}
-
-pub fn name_length(v: &[u8; 192]) -> usize
-    ensures { λ r. ⌜ r ≤ 40 ⌝ }
-{
-    let n = wide(v[43]) as usize;
-    if n < 40 { n } else { 40 }
 }
 
 pub fn flag(v: &[u8; 192]) -> bool {

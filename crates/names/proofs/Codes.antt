@@ -7,7 +7,7 @@ use native.Mathlib.Omega.{arith}
 use borrow.Author.Tests.{leb-true, lt-ltb, le-ltb, ne-eqb}
 use lib.Dec.{eqb, leb, ltb}
 use Rattle.limits.specs.Between.{between}
-use Rattle.names.specs.Elementary.{Elementary, bool, address, bytes, string, uint, int, fixedBytes, isBits, isName, hasWidth, codeOf, ofCode}
+use Rattle.names.specs.Elementary.{Elementary, bool, address, bytes, string, uint, int, fixedBytes, isBits, isName, goodWidth, codeOf, ofCode}
 use Rattle.names.proofs.Ranges.{name-below, name-uint, name-int, name-bytes}
 
 -- a number that passes the test lies between
@@ -21,8 +21,8 @@ back : (base n : ℕ) → base + n - base ≡ n
 back base n = omega arith
 
 -- a type's code is the code of a name
-pub code-is-name : (e : Elementary) → hasWidth e ≡ true → isName (codeOf e) ≡ true
-unfolding isName codeOf hasWidth
+pub code-is-name : (e : Elementary) → goodWidth e ≡ true → isName (codeOf e) ≡ true
+unfolding isName codeOf goodWidth
 code-is-name bool h = refl
 code-is-name address h = refl
 code-is-name bytes h = refl
@@ -39,8 +39,8 @@ unfolding ofCode
 above c h = simp (ne-eqb c 1 (omega arith), ne-eqb c 2 (omega arith), ne-eqb c 3 (omega arith), ne-eqb c 4 (omega arith))
 
 -- a type's code stands for the type
-pub of-code : (e : Elementary) → hasWidth e ≡ true → ofCode (codeOf e) ≡ e
-unfolding ofCode codeOf hasWidth
+pub of-code : (e : Elementary) → goodWidth e ≡ true → ofCode (codeOf e) ≡ e
+unfolding ofCode codeOf goodWidth
 of-code bool h = refl
 of-code address h = refl
 of-code bytes h = refl
@@ -55,12 +55,12 @@ of-code (fixedBytes n) h =
 -- a type whose code the number is
 record Named (c : ℕ) : Type 0 where
   type : Elementary
-  width : hasWidth type ≡ true
+  width : goodWidth type ≡ true
   code : c ≡ codeOf type
 
 -- each name's code is the code of a type, range by range
 named : (c : ℕ) → isName c ≡ true → Named c
-unfolding codeOf hasWidth
+unfolding codeOf goodWidth
 named c h = go (decLt c 1000) (decLt c 2000) (decLt c 3000)
   where
     low : (n : ℕ) → 1 ≤ n → n ≤ 4 → Named n
@@ -83,12 +83,12 @@ module _ (c : ℕ) (h : isName c ≡ true) where
   name-is-code = let n = named c h in let e = of-code (n .type) (n .width) in cc
 
   -- and a width that the ABI specification knows
-  pub name-has-width : hasWidth (ofCode c) ≡ true
+  pub name-has-width : goodWidth (ofCode c) ≡ true
   name-has-width = let n = named c h in let e = of-code (n .type) (n .width) in cc
 
 -- where the codes of names lie
-code-range : (e : Elementary) → hasWidth e ≡ true → (1 ≤ codeOf e) × (codeOf e ≤ 3032) × (codeOf e ≡ 5 → ⊥)
-unfolding codeOf hasWidth
+code-range : (e : Elementary) → goodWidth e ≡ true → (1 ≤ codeOf e) × (codeOf e ≤ 3032) × (codeOf e ≡ 5 → ⊥)
+unfolding codeOf goodWidth
 code-range bool h = omega arith
 code-range address h = omega arith
 code-range bytes h = omega arith

@@ -6,6 +6,8 @@ use lib.Dec.{eqb, leb, ltb}
 use Rattle.limits.specs.Between.{between}
 use Rattle.limits.specs.Codes as code
 
+-- (The ABI specification counts bytes and string apart, as dynamic types; the word here says only that no type is inside.) uint and int by their bits,
+-- fixed bytes by their bytes
 pub data Elementary : Type 0 where
   bool address bytes string : Elementary
   uint int : ℕ → Elementary
@@ -19,15 +21,15 @@ isBits n = between 8 256 n && eqb (n % 8) 0
 abbrev pub isBytes : ℕ → Bool
 isBytes n = between 1 32 n
 
--- has the type a width that the ABI specification knows?
-unfoldable pub hasWidth : Elementary → Bool
-hasWidth bool = true
-hasWidth address = true
-hasWidth bytes = true
-hasWidth string = true
-hasWidth (uint n) = isBits n
-hasWidth (int n) = isBits n
-hasWidth (fixedBytes n) = isBytes n
+-- is its width, if it has one, one of question 2's?
+unfoldable pub goodWidth : Elementary → Bool
+goodWidth bool = true
+goodWidth address = true
+goodWidth bytes = true
+goodWidth string = true
+goodWidth (uint n) = isBits n
+goodWidth (int n) = isBits n
+goodWidth (fixedBytes n) = isBytes n
 
 unfoldable pub codeOf : Elementary → ℕ
 codeOf bool = code.bool
@@ -38,7 +40,8 @@ codeOf (uint n) = code.uint + n
 codeOf (int n) = code.int + n
 codeOf (fixedBytes n) = code.fixedBytes + n
 
--- is the number the code of such a type? (`name-is-code`, `code-is-name`: of one, and of no other number)
+-- is the number the code of such a type? (`name-is-code`, `name-has-width`: a name is the code of a type of good width; `code-is-name`: no other number is;
+-- `of-code`: of one type only)
 unfoldable pub isName : ℕ → Bool
 isName c =
     between code.bool code.string c

@@ -86,7 +86,7 @@ pub fn name_length(code: u32) -> usize
     5 + decimal_length(code - FIXED_BYTES)
 }
 
-// A word before a width.
+// Stores a word and a width behind it, and answers the index behind them.
 fn put_sized(out: &mut [u8], to: usize, word: &[u8], n: u32) -> usize
     requires { ⌜ (n < 1000) × (to + length (now word) + length (decimal n) ≤ length (now out)) ⌝ }
     ensures { λ r. ⌜ (now (out .exit) ≡ sets (now (out .entry)) to (now (word .entry) ++ decimal n)) × (r ≡ to + length (now (word .entry)) + length (decimal n)) ⌝ }

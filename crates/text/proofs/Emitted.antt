@@ -5,7 +5,7 @@ use mathlib.Core.List.{List, [], _∷_, _++_, append-assoc, append-nil}
 use Prim.Native.Nat.{ℕ, suc, _-_, _≤_}
 use native.Mathlib.Omega.{arith}
 use borrow.Author.Tests.{lt-leb}
-use Rattle.names.specs.Elementary.{Elementary, codeOf, ofCode, hasWidth}
+use Rattle.names.specs.Elementary.{Elementary, codeOf, ofCode, goodWidth}
 use Rattle.names.specs.Text.{nameText}
 use Rattle.names.proofs.Codes.{code-is-name, of-code}
 use Rattle.types.specs.Tree.{AbiType, AbiTypes, elementary, array, tuple, nil, cons, count, wellFormed, allWellFormed}
@@ -14,11 +14,11 @@ use Rattle.types.specs.Kind.{kindOf}
 use Rattle.types.specs.Text.{text, listText, moreText, openParen, closeParen, comma, brackets}
 use Rattle.types.proofs.Formed.{head-formed, tail-formed, tuple-count, tuple-parts}
 use Rattle.types.proofs.KindLaws.{name-kind, array-kind, tuple-kind}
-use Rattle.text.specs.Machine.{closers, stillOpen, separator, pieceBy, openBy, isLast, emit}
+use Rattle.text.specs.Machine.{closers, stillOpen, separator, pieceBy, openBy, noneLeft, emit}
 
 -- what is written behind a type: the closers, a comma if more follows, and the rest
 abbrev rest : List ℕ → List ℕ → List ℕ
-rest st cs = closers st ++ separator (isLast cs) ++ emit (stillOpen st) cs
+rest st cs = closers st ++ separator (noneLeft cs) ++ emit (stillOpen st) cs
 
 abbrev Writes : AbiType → Type 0
 Writes t = (st cs : List ℕ) → emit st (codes t ++ cs) ≡ text t ++ rest st cs
@@ -27,7 +27,7 @@ abbrev WritesParts : AbiTypes → Type 0
 WritesParts ts = (st cs : List ℕ) → emit (count ts ∷ st) (allCodes ts ++ cs) ≡ listText ts ++ ((closeParen ∷ []) ++ rest st cs)
 
 -- the codes of a list with a first type are not at an end
-more-codes : (t : AbiType) (ts : AbiTypes) (cs : List ℕ) → isLast (allCodes (cons t ts) ++ cs) ≡ false
+more-codes : (t : AbiType) (ts : AbiTypes) (cs : List ℕ) → noneLeft (allCodes (cons t ts) ++ cs) ≡ false
 unfolding codes
 more-codes (elementary e) ts cs = refl
 more-codes (array t) ts cs = refl
@@ -43,7 +43,7 @@ module _ (k : ℕ) (st : List ℕ) (two : 2 ≤ k) where
   unfolding stillOpen
   stays-open = simp (lt-leb k 1 (omega arith))
 
-  comma-behind : (l x : List ℕ) → isLast l ≡ false → emit ((k - 1) ∷ st) l ≡ x → rest (k ∷ st) l ≡ comma ∷ x
+  comma-behind : (l x : List ℕ) → noneLeft l ≡ false → emit ((k - 1) ∷ st) l ≡ x → rest (k ∷ st) l ≡ comma ∷ x
   comma-behind l x e f = simp (stays-shut, stays-open, e) (ap (λ (y : List ℕ). comma ∷ y) f)
 
 -- a last part writes its text and the closing parenthesis
@@ -91,8 +91,8 @@ unfolding codes text emit closers stillOpen
 emit-is-text nil h = refl
 emit-is-text (cons t ts) h = emit-type t (head-formed t ts h) [] (allCodes ts) ∙ ap (λ (l : List ℕ). text t ++ l) (behind ts (emit-is-text ts (tail-formed t ts h)))
   where
-    behind : (ts : AbiTypes) → emit [] (allCodes ts) ≡ listText ts → separator (isLast (allCodes ts)) ++ emit [] (allCodes ts) ≡ moreText ts
+    behind : (ts : AbiTypes) → emit [] (allCodes ts) ≡ listText ts → separator (noneLeft (allCodes ts)) ++ emit [] (allCodes ts) ≡ moreText ts
     behind nil e = refl
     behind (cons u us) e =
-        let s : isLast (allCodes (cons u us)) ≡ false = ap isLast (sym (append-nil (allCodes (cons u us)))) ∙ more-codes u us [] in
+        let s : noneLeft (allCodes (cons u us)) ≡ false = ap noneLeft (sym (append-nil (allCodes (cons u us)))) ∙ more-codes u us [] in
         ap (λ (b : Bool). separator b ++ emit [] (allCodes (cons u us))) s ∙ ap (λ (l : List ℕ). comma ∷ l) e

@@ -6,7 +6,6 @@ use Prim.Native.Nat.{ℕ, zero, suc, _+_, _-_, _*_, _≤_, _<_}
 use native.Mathlib.Numerals.{add-one}
 use native.Mathlib.Omega.{arith}
 use native.Mathlib.Decide.{ℕ-discrete}
-use borrow.Author.Tests.{ne-eqb}
 use lib.ListN.{length, getD, drop, length-append, drop-of-length-le}
 use lib.Seq.{drop-cons}
 use Rattle.names.specs.Elementary.{codeOf, ofCode}
@@ -16,13 +15,15 @@ use Rattle.types.specs.Tree.{AbiType, AbiTypes, elementary, array, tuple, nil, 
 use Rattle.types.specs.Codes.{codes, Spells}
 use Rattle.types.specs.Kind.{kindOf}
 use Rattle.types.specs.Text.{text, listText, moreText, openParen, closeParen, brackets}
-use Rattle.types.specs.declared.Kind.the-variants.{Unknown}
+use Rattle.types.specs.declared.CodeKind.the-variants.{Unknown}
 use Rattle.types.proofs.Formed.{tuple-count}
 use Rattle.types.proofs.KindLaws.{name-kind, array-kind, tuple-kind}
-use Rattle.types.proofs.Roots.{root, parts, Follows}
+use Rattle.types.specs.Root.{root, parts}
+use Rattle.types.proofs.Roots.{Follows}
 use Rattle.types.proofs.Sizes.{count-codes}
 use Rattle.types.proofs.Nodes.{Wanted, Step, after, step-wanted, wanted-none, none-wanted, wanted-unknown}
-use Rattle.text.specs.Weight.{ownBy, own, first}
+use Rattle.text.specs.Weight.{ownBy, own, commaBefore}
+use Rattle.text.proofs.Tallies.{comma-first, comma-none}
 
 -- the texts of the types, without what joins them
 textSum : AbiTypes → ℕ
@@ -67,13 +68,6 @@ unfolding count codes
 some-types cs f nil s = absurd (f (sym (ap length (s .spelt))))
 some-types cs f (cons t ts) s = omega arith
 
--- a code where no type is wanted begins an entry
-first-none : (w : ℕ) → w ≡ 0 → first w ≡ 1
-first-none w e = simp e
-
-first-some : (w : ℕ) → (w ≡ 0 → ⊥) → first w ≡ 0
-first-some w f = simp (ne-eqb w 0 f)
-
 -- what is left of the types ts when w types are wanted and l bytes are counted, each entry with a comma before it
 record Left (w l : ℕ) (ts : AbiTypes) (cs : List ℕ) : Type 0 where
   us : AbiTypes
@@ -117,7 +111,7 @@ module _ (cs : List ℕ) (w l i c : ℕ) (more : i < length cs) (ec : c ≡ getD
       wanted-unknown c w (drop (i + 1) cs) e record { types = x .us; spells = rw here at (x .spells); enough = x .enough }
 
   module _ (k : ℕ) (follows : Follows c k) (few : k ≤ 65535) (short : own c ≤ 65536) where
-    left-more : (ts : AbiTypes) → Spells ts cs → Left (w - 1 + k) (l + first w + own c) ts (drop (i + 1) cs)
+    left-more : (ts : AbiTypes) → Spells ts cs → Left (w - 1 + k) (l + commaBefore w + own c) ts (drop (i + 1) cs)
     left-more ts s =
         let x = so-far .left ts s in
         let (us, st) = after c k (drop (i + 1) cs) follows (x .us) (rw here at (x .spells)) in
@@ -125,22 +119,22 @@ module _ (cs : List ℕ) (w l i c : ℕ) (more : i < length cs) (ec : c ≡ getD
         record { us = us; spells = st .spelt-after; enough = omega arith; sum = go x us st e (ℕ-discrete w 0) }
       where
         go : (x : Left w l ts (drop i cs)) (us : AbiTypes) → Step c k (drop (i + 1) cs) (x .us) us → textSum (x .us) ≡ own c + textSum us → Dec (w ≡ 0) →
-            length (moreText ts) ≡ l + first w + own c + textSum us + (count us - (w - 1 + k))
-        go x us st e (yes z) = omega (arith, first-none w z, st .counts, st .some, x .enough, x .sum)
-        go x us st e (no f) = omega (arith, first-some w f, st .counts, st .some, x .enough, x .sum)
+            length (moreText ts) ≡ l + commaBefore w + own c + textSum us + (count us - (w - 1 + k))
+        go x us st e (yes z) = omega (arith, comma-first w z, st .counts, st .some, x .enough, x .sum)
+        go x us st e (no f) = omega (arith, comma-none w f, st .counts, st .some, x .enough, x .sum)
 
-    first-small : first w ≤ 1
-    first-small = go (ℕ-discrete w 0)
+    comma-small : commaBefore w ≤ 1
+    comma-small = go (ℕ-discrete w 0)
       where
-        go : Dec (w ≡ 0) → first w ≤ 1
-        go (yes z) = omega (arith, first-none w z)
-        go (no f) = omega (arith, first-some w f)
+        go : Dec (w ≡ 0) → commaBefore w ≤ 1
+        go (yes z) = omega (arith, comma-first w z)
+        go (no f) = omega (arith, comma-none w f)
 
-    pub counting-more : Counting cs (w - 1 + k) (l + first w + own c) (i + 1)
+    pub counting-more : Counting cs (w - 1 + k) (l + commaBefore w + own c) (i + 1)
     counting-more = record {
       turns = omega arith;
       few = omega (arith, so-far .few);
-      short = omega (arith, so-far .short, first-small);
+      short = omega (arith, so-far .short, comma-small);
       back = λ x. so-far .back (rw here (step-wanted c k (drop (i + 1) cs) follows w x));
       left = left-more;
     }

@@ -9,8 +9,8 @@ use lib.ListN.{length, set, length-append}
 use lib.Seq.{sets, length-sets}
 use Rattle.names.specs.Elementary.{isName, ofCode}
 use Rattle.names.specs.Text.{nameText}
-use Rattle.types.specs.declared.Kind.{Kind}
-use Rattle.types.specs.declared.Kind.the-variants.{Name, Array, Tuple, Unknown}
+use Rattle.types.specs.declared.CodeKind.{CodeKind}
+use Rattle.types.specs.declared.CodeKind.the-variants.{Name, Array, Tuple, Unknown}
 use Rattle.types.specs.Kind.{kindOf}
 use Rattle.types.specs.Text.{openParen, closeParen, comma, brackets}
 use Rattle.spell.proofs.Stores.{sets-both}
@@ -83,15 +83,15 @@ module _ (c : ℕ) (st : List ℕ) (last : Bool) (out : List ℕ) (to : ℕ) (ro
             }
 
 -- the kinds
-module _ (c : ℕ) (held : List ℕ) (depth : ℕ) (last : Bool) (out : List ℕ) (to : ℕ) (kind : Kind) (ek : kind ≡ kindOf c) where
-  of : (k : Kind) → kind ≡ k → (out′ held′ : List ℕ) (depth′ to′ : ℕ) →
+module _ (c : ℕ) (held : List ℕ) (depth : ℕ) (last : Bool) (out : List ℕ) (to : ℕ) (kind : CodeKind) (ek : kind ≡ kindOf c) where
+  of : (k : CodeKind) → kind ≡ k → (out′ held′ : List ℕ) (depth′ to′ : ℕ) →
       Wrote (pieceBy k (stackOf held depth) c last) (openBy k (stackOf held depth)) out to out′ held′ depth′ to′ →
       Wrote (pieceBy (kindOf c) (stackOf held depth) c last) (openBy (kindOf c) (stackOf held depth)) out to out′ held′ depth′ to′
   of k e out′ held′ depth′ to′ w =
-      subst (λ (j : Kind). Wrote (pieceBy j (stackOf held depth) c last) (openBy j (stackOf held depth)) out to out′ held′ depth′ to′) (sym e ∙ ek) w
+      subst (λ (j : CodeKind). Wrote (pieceBy j (stackOf held depth) c last) (openBy j (stackOf held depth)) out to out′ held′ depth′ to′) (sym e ∙ ek) w
 
-  pub code-room : (k : Kind) → kind ≡ k → (m : ℕ) → to + length (pieceBy (kindOf c) (stackOf held depth) c last) ≤ m → to + length (pieceBy k (stackOf held depth) c last) ≤ m
-  code-room k e m h = subst (λ (j : Kind). to + length (pieceBy j (stackOf held depth) c last) ≤ m) (sym ek ∙ e) h
+  pub code-room : (k : CodeKind) → kind ≡ k → (m : ℕ) → to + length (pieceBy (kindOf c) (stackOf held depth) c last) ≤ m → to + length (pieceBy k (stackOf held depth) c last) ≤ m
+  code-room k e m h = subst (λ (j : CodeKind). to + length (pieceBy j (stackOf held depth) c last) ≤ m) (sym ek ∙ e) h
 
   pub tuple-room : (n : ℕ) → kind ≡ Tuple n → (m : ℕ) → to + length (pieceBy (kindOf c) (stackOf held depth) c last) ≤ m → to + 1 ≤ m
   tuple-room n e m h = code-room (Tuple n) e m h

@@ -8,21 +8,21 @@ use borrow.Author.Tests.{ne-eqb, lt-ltb, le-ltb}
 use lib.ListN.{length, length-append}
 use Rattle.names.specs.Elementary.{Elementary, bool, address, bytes, string, uint, int, fixedBytes, isName, ofCode}
 use Rattle.names.specs.Text.{decimal, nameText}
-use Rattle.types.specs.declared.Kind.{Kind}
-use Rattle.types.specs.declared.Kind.the-variants.{Name, Array, Tuple, Unknown}
+use Rattle.types.specs.declared.CodeKind.{CodeKind}
+use Rattle.types.specs.declared.CodeKind.the-variants.{Name, Array, Tuple, Unknown}
 use Rattle.types.specs.Kind.{kindOf}
 use Rattle.types.proofs.KindLaws.{kind-name, kind-tuple}
 use Rattle.types.proofs.Roots.{Follows, name-follows, array-follows, tuple-follows}
 use Rattle.text.specs.declared.Tally.{Tally}
 use Rattle.text.specs.declared.Tallied.{Tallied}
 use Rattle.text.specs.declared.Tallied.the-variants.{Code}
-use Rattle.text.specs.declared.Tallied.the-variants.{Unknown as Untold}
-use Rattle.text.specs.Weight.{ownBy, own, first, talliedBy, tallied}
+use Rattle.text.specs.declared.Tallied.the-variants.{Unknown as Missed}
+use Rattle.text.specs.Weight.{ownBy, own, commaBefore, talliedBy, tallied}
 
-pub comma-first : (w : ℕ) → w ≡ 0 → 1 ≡ first w
+pub comma-first : (w : ℕ) → w ≡ 0 → 1 ≡ commaBefore w
 comma-first w e = simp e
 
-pub comma-none : (w : ℕ) → (w ≡ 0 → ⊥) → 0 ≡ first w
+pub comma-none : (w : ℕ) → (w ≡ 0 → ⊥) → 0 ≡ commaBefore w
 comma-none w f = simp (ne-eqb w 0 f)
 
 -- a name's text is short
@@ -45,16 +45,16 @@ name-short (uint n) = omega (arith, decimal-short n)
 name-short (int n) = omega (arith, decimal-short n)
 name-short (fixedBytes n) = omega (arith, decimal-short n)
 
-pub is-name : (c : ℕ) (kind : Kind) → kind ≡ kindOf c → kind ≡ Name → isName c ≡ true
+pub is-name : (c : ℕ) (kind : CodeKind) → kind ≡ kindOf c → kind ≡ Name → isName c ≡ true
 is-name c kind ek e = kind-name c (sym ek ∙ e)
 
-pub tuple-small : (c n : ℕ) (kind : Kind) → kind ≡ kindOf c → kind ≡ Tuple n → c < 65536 → n < 65536
+pub tuple-small : (c n : ℕ) (kind : CodeKind) → kind ≡ kindOf c → kind ≡ Tuple n → c < 65536 → n < 65536
 tuple-small c n kind ek e h = omega (arith, kind-tuple c n (sym ek ∙ e))
 
-module _ (c w l x f : ℕ) (kind : Kind) (ek : kind ≡ kindOf c) (ex : x ≡ w - 1) (ef : f ≡ first w) where
-  by : (k : Kind) → kind ≡ k → talliedBy k c w l ≡ tallied c w l
+module _ (c w l x f : ℕ) (kind : CodeKind) (ek : kind ≡ kindOf c) (ex : x ≡ w - 1) (ef : f ≡ commaBefore w) where
+  by : (k : CodeKind) → kind ≡ k → talliedBy k c w l ≡ tallied c w l
   unfolding tallied
-  by k e = ap (λ (j : Kind). talliedBy j c w l) (sym e ∙ ek)
+  by k e = ap (λ (j : CodeKind). talliedBy j c w l) (sym e ∙ ek)
 
   pub tally-name : kind ≡ Name → (n : ℕ) → n ≡ length (nameText (ofCode c)) → Code (record { wanted = x; length = l + f + n }) ≡ tallied c w l
   tally-name e n en = (λ i. Code (record { wanted = ex i; length = l + ef i + en i })) ∙ by Name e
@@ -65,47 +65,47 @@ module _ (c w l x f : ℕ) (kind : Kind) (ek : kind ≡ kindOf c) (ex : x ≡ w 
   pub tally-tuple : (n : ℕ) → kind ≡ Tuple n → Code (record { wanted = x + n; length = l + f + (n + 1) }) ≡ tallied c w l
   tally-tuple n e = (λ i. Code (record { wanted = ex i + n; length = l + ef i + (n + 1) })) ∙ by (Tuple n) e
 
-  pub tally-unknown : kind ≡ Unknown → Untold ≡ tallied c w l
+  pub tally-unknown : kind ≡ Unknown → Missed ≡ tallied c w l
   tally-unknown e = by Unknown e
 
 -- what a tally says of the code
-pub record Told (c w l : ℕ) (t : Tally) : Type 0 where
+pub record Follow (c w l : ℕ) (t : Tally) : Type 0 where
   pub parts : ℕ
   pub follows : Follows c parts
   pub few : parts ≤ 65535
   pub short : own c ≤ 65536
   pub wanted : t .wanted ≡ w - 1 + parts
-  pub length : t .length ≡ l + first w + own c
+  pub length : t .length ≡ l + commaBefore w + own c
 
 same-tally : (a b : Tally) → Code a ≡ Code b → a ≡ b
 same-tally a b e = cc
 
-own-is : (c : ℕ) (k : Kind) → kindOf c ≡ k → own c ≡ ownBy k c
+own-is : (c : ℕ) (k : CodeKind) → kindOf c ≡ k → own c ≡ ownBy k c
 unfolding own
-own-is c k e = ap (λ (j : Kind). ownBy j c) e
+own-is c k e = ap (λ (j : CodeKind). ownBy j c) e
 
 -- a tally that was made says which types follow the code
-pub told : (c w l : ℕ) (t : Tally) → c < 65536 → Code t ≡ tallied c w l → Told c w l t
+pub tally-follow : (c w l : ℕ) (t : Tally) → c < 65536 → Code t ≡ tallied c w l → Follow c w l t
 unfolding tallied
-told c w l t h = go (kindOf c) refl
+tally-follow c w l t h = go (kindOf c) refl
   where
-    of : (k n : ℕ) → Follows c k → k ≤ 65535 → own c ≡ n → n ≤ 65536 → Code t ≡ Code (record { wanted = w - 1 + k; length = l + first w + n }) → Told c w l t
+    of : (k n : ℕ) → Follows c k → k ≤ 65535 → own c ≡ n → n ≤ 65536 → Code t ≡ Code (record { wanted = w - 1 + k; length = l + commaBefore w + n }) → Follow c w l t
     of k n f few e short q =
-        let s = same-tally t (record { wanted = w - 1 + k; length = l + first w + n }) q in
+        let s = same-tally t (record { wanted = w - 1 + k; length = l + commaBefore w + n }) q in
         record {
           parts = k;
           follows = f;
           few = few;
           short = omega arith;
           wanted = λ i. s i .wanted;
-          length = (λ i. s i .length) ∙ ap (λ (m : ℕ). l + first w + m) (sym e);
+          length = (λ i. s i .length) ∙ ap (λ (m : ℕ). l + commaBefore w + m) (sym e);
         }
 
-    go : (k : Kind) → kindOf c ≡ k → Code t ≡ talliedBy k c w l → Told c w l t
+    go : (k : CodeKind) → kindOf c ≡ k → Code t ≡ talliedBy k c w l → Follow c w l t
     go Name e q =
         let z : w - 1 ≡ w - 1 + 0 = omega arith in
         of 0 (length (nameText (ofCode c))) (name-follows c e) (omega arith) (own-is c Name e) (omega (arith, name-short (ofCode c)))
-        (q ∙ (λ i. Code (record { wanted = z i; length = l + first w + length (nameText (ofCode c)) })))
+        (q ∙ (λ i. Code (record { wanted = z i; length = l + commaBefore w + length (nameText (ofCode c)) })))
     go Array e q = of 1 2 (array-follows c e) (omega arith) (own-is c Array e) (omega arith) q
     go (Tuple n) e q =
         let s = kind-tuple c n e in
@@ -113,11 +113,11 @@ told c w l t h = go (kindOf c) refl
     go Unknown e q = let z : _≡_ {A = ℕ} 0 1 = cc in absurd (omega arith)
 
 -- one that was not made, that the code is of no kind
-pub untold : (c w l : ℕ) → Untold ≡ tallied c w l → kindOf c ≡ Unknown
+pub no-tally : (c w l : ℕ) → Missed ≡ tallied c w l → kindOf c ≡ Unknown
 unfolding tallied
-untold c w l = go (kindOf c) refl
+no-tally c w l = go (kindOf c) refl
   where
-    go : (k : Kind) → kindOf c ≡ k → Untold ≡ talliedBy k c w l → kindOf c ≡ Unknown
+    go : (k : CodeKind) → kindOf c ≡ k → Missed ≡ talliedBy k c w l → kindOf c ≡ Unknown
     go Name e q = let z : _≡_ {A = ℕ} 0 1 = cc in absurd (omega arith)
     go Array e q = let z : _≡_ {A = ℕ} 0 1 = cc in absurd (omega arith)
     go (Tuple n) e q = let z : _≡_ {A = ℕ} 0 1 = cc in absurd (omega arith)

@@ -12,15 +12,15 @@ use lib.ListN.{length, getD, drop, length-append, length-drop, drop-of-length-le
 use lib.Seq.{sets, drop-cons, length-sets}
 use Rattle.types.specs.Kind.{kindOf}
 use Rattle.spell.proofs.Stores.{sets-append}
-use Rattle.text.specs.Machine.{pieceBy, openBy, isLast, emit, stackOf, Wrote}
+use Rattle.text.specs.Machine.{pieceBy, openBy, noneLeft, emit, stackOf, Wrote}
 
 -- the last code is the one behind which none is left
-last-is : (cs : List ℕ) (i : ℕ) → i < length cs → eqb (i + 1) (length cs) ≡ isLast (drop (i + 1) cs)
+last-is : (cs : List ℕ) (i : ℕ) → i < length cs → eqb (i + 1) (length cs) ≡ noneLeft (drop (i + 1) cs)
 last-is cs i h = go (decLt (i + 1) (length cs))
   where
-    go : Dec (i + 1 < length cs) → eqb (i + 1) (length cs) ≡ isLast (drop (i + 1) cs)
-    go (yes l) = ne-eqb (i + 1) (length cs) (λ e. absurd (omega arith)) ∙ sym (ap isLast (drop-cons cs (i + 1) 0 l))
-    go (no l) = eq-eqb (i + 1) (length cs) (omega arith) ∙ sym (ap isLast (drop-of-length-le cs (let m : length cs ≤ i + 1 = omega arith in m)))
+    go : Dec (i + 1 < length cs) → eqb (i + 1) (length cs) ≡ noneLeft (drop (i + 1) cs)
+    go (yes l) = ne-eqb (i + 1) (length cs) (λ e. absurd (omega arith)) ∙ sym (ap noneLeft (drop-cons cs (i + 1) 0 l))
+    go (no l) = eq-eqb (i + 1) (length cs) (omega arith) ∙ sym (ap noneLeft (drop-of-length-le cs (let m : length cs ≤ i + 1 = omega arith in m)))
 
 pub record Writing (cs out₀ held₀ held out : List ℕ) (depth to i : ℕ) : Type 0 where
   pub turns : i ≤ length cs

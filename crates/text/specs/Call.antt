@@ -2,30 +2,33 @@
 -- text keep their values." Assumes nothing.
 use Prim.Native.Nat.{ℕ, _≤_, _<_}
 use mathlib.Core.Path.{_≡_}
-use mathlib.Core.List.{List}
-use lib.ListN.{length}
-use lib.Seq.{sets}
-use Rattle.limits.specs.Limits.{codesMax}
+use mathlib.Core.List.{List, _++_}
+use lib.ListN.{length, drop}
 use Rattle.types.specs.Tree.{AbiTypes}
-use Rattle.types.specs.Codes.{Spells}
+use Rattle.types.specs.Codes.{Passes}
 use Rattle.types.specs.Text.{listText}
 use Rattle.text.specs.declared.TextAnswer.{TextAnswer}
 use Rattle.text.specs.declared.TextAnswer.the-variants.{Written, NotTypes, TooLong}
 
--- the list passes question 10: the codes are those of some types, and at most 8,192
-pub record Passes (cs : List ℕ) (ts : AbiTypes) : Type 0 where
-  pub spells : Spells ts cs
-  pub most : length cs ≤ codesMax
+-- the slice with a text at its start
+abbrev pub over : List ℕ → List ℕ → List ℕ
+over t out = t ++ drop (length t) out
 
--- what the call answers and leaves in the slice. (`one-answer`: it is the only answer, and the only slice)
-abbrev pub Told : List ℕ → List ℕ → List ℕ → TextAnswer → Type 0
-Told cs out out′ (Written n) =
-    (ts : AbiTypes) × Passes cs ts × (length (listText ts) ≤ length out) × (n ≡ length (listText ts)) × (out′ ≡ sets out 0 (listText ts))
-Told cs out out′ NotTypes = ((ts : AbiTypes) → Passes cs ts → ⊥) × (out′ ≡ out)
-Told cs out out′ TooLong = (ts : AbiTypes) × Passes cs ts × (length out < length (listText ts)) × (out′ ≡ out)
+-- What the call does with a list of codes and a slice, by document 01's numbers: the refusal's number, 0 for none, the text's length, 0 for a refusal,
+-- and what the slice holds then. (`one-outcome`: there is one outcome only.)
+pub data Outcome (cs out : List ℕ) (number n : ℕ) (out′ : List ℕ) : Type 0 where
+  written : (ts : AbiTypes) → Passes ts cs → length (listText ts) ≤ length out → number ≡ 0 → n ≡ length (listText ts) → out′ ≡ over (listText ts) out → Outcome cs out number n out′
+  no-types : ((ts : AbiTypes) → Passes ts cs → ⊥) → number ≡ 10 → n ≡ 0 → out′ ≡ out → Outcome cs out number n out′
+  too-long : (ts : AbiTypes) → Passes ts cs → length out < length (listText ts) → number ≡ 11 → n ≡ 0 → out′ ≡ out → Outcome cs out number n out′
 
--- document 01's number for each answer, 0 for a call that is taken
+-- document 01's number for each answer; the 0 of a call that is taken is ours
 abbrev pub numberOf : TextAnswer → ℕ
 numberOf (Written n) = 0
 numberOf NotTypes = 10
 numberOf TooLong = 11
+
+-- and its value
+abbrev pub lengthOf : TextAnswer → ℕ
+lengthOf (Written n) = n
+lengthOf NotTypes = 0
+lengthOf TooLong = 0

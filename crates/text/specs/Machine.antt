@@ -9,8 +9,8 @@ use lib.ListN.{length, getD}
 use lib.Seq.{sets}
 use Rattle.names.specs.Elementary.{ofCode}
 use Rattle.names.specs.Text.{nameText}
-use Rattle.types.specs.declared.Kind.{Kind}
-use Rattle.types.specs.declared.Kind.the-variants.{Name, Array, Tuple, Unknown}
+use Rattle.types.specs.declared.CodeKind.{CodeKind}
+use Rattle.types.specs.declared.CodeKind.the-variants.{Name, Array, Tuple, Unknown}
 use Rattle.types.specs.Kind.{kindOf}
 use Rattle.types.specs.Text.{openParen, closeParen, comma, brackets}
 
@@ -28,31 +28,31 @@ unfoldable pub stillOpen : List ℕ → List ℕ
 stillOpen [] = []
 stillOpen (k ∷ st) = cond (leb k 1) (stillOpen st) ((k - 1) ∷ st)
 
--- a comma stands between a type and the next
+-- a comma stands between a type and the next, and none behind the last code
 abbrev pub separator : Bool → List ℕ
 separator true = []
 separator false = comma ∷ []
 
 -- what one code writes, and what is open behind it
-abbrev pub pieceBy : Kind → List ℕ → ℕ → Bool → List ℕ
+abbrev pub pieceBy : CodeKind → List ℕ → ℕ → Bool → List ℕ
 pieceBy Name st c last = nameText (ofCode c) ++ closers st ++ separator last
 pieceBy Array st c last = []
 pieceBy (Tuple n) st c last = openParen ∷ []
 pieceBy Unknown st c last = []
 
-abbrev pub openBy : Kind → List ℕ → List ℕ
+abbrev pub openBy : CodeKind → List ℕ → List ℕ
 openBy Name st = stillOpen st
 openBy Array st = 0 ∷ st
 openBy (Tuple n) st = n ∷ st
 openBy Unknown st = st
 
-abbrev pub isLast : List ℕ → Bool
-isLast [] = true
-isLast (c ∷ cs) = false
+abbrev pub noneLeft : List ℕ → Bool
+noneLeft [] = true
+noneLeft (c ∷ cs) = false
 
 unfoldable pub emit : List ℕ → List ℕ → List ℕ
 emit st [] = []
-emit st (c ∷ cs) = pieceBy (kindOf c) st c (isLast cs) ++ emit (openBy (kindOf c) st) cs
+emit st (c ∷ cs) = pieceBy (kindOf c) st c (noneLeft cs) ++ emit (openBy (kindOf c) st) cs
 
 -- the stack that the first numbers of a slice hold, the last of them on top
 unfoldable pub stackOf : List ℕ → ℕ → List ℕ

@@ -1,6 +1,6 @@
 // The public call.
 ghost use mathlib.Core.Path.{_≡_};
-ghost use Rattle.text.specs.Call.{Told};
+ghost use Rattle.text.specs.Call.{Outcome, numberOf, lengthOf};
 use crate::Measure;
 use crate::TextAnswer;
 use crate::count::measure;
@@ -9,7 +9,7 @@ use limits::CODES_MAX;
 
 // Writes the text of the list at the start of out. The length is known before the first byte is written, so a refusal changes nothing.
 pub fn text(codes: &[u16], out: &mut [u8]) -> TextAnswer
-    ensures { λ r. ⌜ Told (now (codes .entry)) (now (out .entry)) (now (out .exit)) r ⌝ }
+    ensures { λ r. ⌜ Outcome (now (codes .entry)) (now (out .entry)) (numberOf r) (lengthOf r) (now (out .exit)) ⌝ }
 {
     if CODES_MAX < codes.len() {
         return TextAnswer::NotTypes;

@@ -2,12 +2,13 @@
 ghost use mathlib.Core.Path.{_≡_};
 ghost use Prim.Native.Nat.{_-_, _^_, _≤_};
 ghost use lib.ListN.{length};
-ghost use Rattle.text.specs.Weight.{first, tallied, MeasuredBy};
+ghost use Rattle.limits.specs.Limits.{codesMax};
+ghost use Rattle.text.specs.Weight.{commaBefore, tallied, MeasuredBy};
 use crate::Measure;
 use crate::Tallied;
 use crate::Tally;
 use spell::name_length;
-use types::Kind;
+use types::CodeKind;
 use types::kind_of;
 
 fn one_fewer(n: usize) -> usize
@@ -20,7 +21,7 @@ fn one_fewer(n: usize) -> usize
 }
 
 fn comma_before(wanted: usize) -> usize
-    ensures { λ r. ⌜ (r ≡ first wanted) × (r ≤ 1) ⌝ }
+    ensures { λ r. ⌜ (r ≡ commaBefore wanted) × (r ≤ 1) ⌝ }
 {
     if wanted == 0 {
         return 1;
@@ -28,6 +29,7 @@ fn comma_before(wanted: usize) -> usize
     0
 }
 
+// The tally with one code more.
 fn tally_code(t: Tally, code: u16) -> Tallied
     requires { ⌜ (t .wanted ≤ 2 ^ 32) × (t .length ≤ 2 ^ 32) ⌝ }
     ensures { λ r. ⌜ r ≡ tallied code (t .wanted) (t .length) ⌝ }
@@ -36,24 +38,25 @@ fn tally_code(t: Tally, code: u16) -> Tallied
     let length = t.length + comma_before(t.wanted);
     let kind = kind_of(code);
     match kind {
-        Kind::Name => Tallied::Code(Tally {
+        CodeKind::Name => Tallied::Code(Tally {
             wanted,
             length: length + name_length(code as u32),
         }),
-        Kind::Array => Tallied::Code(Tally {
+        CodeKind::Array => Tallied::Code(Tally {
             wanted: wanted + 1,
             length: length + 2,
         }),
-        Kind::Tuple(n) => Tallied::Code(Tally {
+        CodeKind::Tuple(n) => Tallied::Code(Tally {
             wanted: wanted + n as usize,
             length: length + (n as usize + 1),
         }),
-        Kind::Unknown => Tallied::Unknown,
+        CodeKind::Unknown => Tallied::Unknown,
     }
 }
 
+// The length of the text, if the codes are those of types: at the end no type is wanted.
 pub fn measure(codes: &[u16]) -> Measure
-    requires { ⌜ length (now codes) ≤ 8192 ⌝ }
+    requires { ⌜ length (now codes) ≤ codesMax ⌝ }
     ensures { λ r. ⌜ MeasuredBy (now (codes .entry)) r ⌝ }
 {
     let mut t = Tally {

@@ -21,7 +21,7 @@ pub struct Tally {
     pub length: usize,
 }
 
-// The tally with one code more; none where the code is of no kind.
+// The tally with one code more; Unknown where the number is no code.
 pub enum Tallied {
     Code(Tally),
     Unknown,

@@ -1,18 +1,20 @@
-// The text, written from the left. What is open is held in a lent slice: 0 for an array, for a tuple the number of parts still to come.
+// The text, written from the left. What is open is held in a lent slice: 0 for an array, for a tuple the number of parts not yet finished.
 ghost use mathlib.Core.Path.{_≡_};
 ghost use mathlib.Core.Bool.{true};
 ghost use mathlib.Core.List.{[]};
 ghost use Prim.Native.Nat.{_+_, _≤_, _<_};
 ghost use lib.ListN.{length};
 ghost use lib.Seq.{sets};
+ghost use Rattle.limits.specs.Limits.{codesMax};
 ghost use Rattle.names.specs.Elementary.{isName};
 ghost use Rattle.types.specs.Kind.{kindOf};
-ghost use Rattle.types.specs.declared.Kind.the-variants.{Name};
+ghost use Rattle.types.specs.declared.CodeKind.the-variants.{Name};
 ghost use Rattle.text.specs.Machine.{closer, closers, stillOpen, pieceBy, openBy, emit, stackOf, Wrote};
 use crate::Progress;
+use limits::CODES_MAX;
 use spell::put_bytes;
 use spell::put_name;
-use types::Kind;
+use types::CodeKind;
 use types::kind_of;
 
 fn put_closer(left: u16, out: &mut [u8], to: usize) -> usize
@@ -84,15 +86,15 @@ fn write_code(
 {
     let kind = kind_of(code);
     match kind {
-        Kind::Name => write_name(code, last, held, depth, out, to),
-        Kind::Array => {
+        CodeKind::Name => write_name(code, last, held, depth, out, to),
+        CodeKind::Array => {
             held[depth] = 0;
             Progress {
                 depth: depth + 1,
                 to,
             }
         }
-        Kind::Tuple(n) => {
+        CodeKind::Tuple(n) => {
             held[depth] = n as u16;
             let at = put_bytes(out, to, b"(");
             Progress {
@@ -100,7 +102,7 @@ fn write_code(
                 to: at,
             }
         }
-        Kind::Unknown => Progress { depth, to },
+        CodeKind::Unknown => Progress { depth, to },
     }
 }
 
@@ -119,9 +121,9 @@ fn write_codes(codes: &[u16], held: &mut [u16], out: &mut [u8])
 
 // At most 8,192 codes, whose text fits.
 pub fn write_list(codes: &[u16], out: &mut [u8])
-    requires { ⌜ (length (now codes) ≤ 8192) × (length (emit [] (now codes)) ≤ length (now out)) ⌝ }
+    requires { ⌜ (length (now codes) ≤ codesMax) × (length (emit [] (now codes)) ≤ length (now out)) ⌝ }
     ensures { λ _. ⌜ now (out .exit) ≡ sets (now (out .entry)) 0 (emit [] (now (codes .entry))) ⌝ }
 {
-    let mut held = [0u16; 8192];
+    let mut held = [0u16; CODES_MAX];
     write_codes(codes, &mut held, out);
 }

@@ -1,21 +1,17 @@
 // Runs the text call on the vectors of standard input and writes a line for each: its name, the answer, the text or, if it is long, its sum, and whether
-// the bytes behind it were kept. A vector is 192 bytes: name (40), name length, runs, two zeros, slice length (4), and up to 36 runs of two numbers of
-// 16 bits: how often, and which code. Numbers are highest byte first. tools/text_vectors.py makes them, and the answers from a model of its own.
+// the bytes behind it were kept. A vector is 192 bytes: name (40), name length, runs, runs of the block, zero, how often the block is repeated (2), slice
+// length (2), and up to 36 runs of two numbers of 16 bits: how often, and which code; the first runs are the block. Numbers are highest byte first.
+// tools/text_vectors.py makes them, and the answers from a model of its own.
 mod report;
 mod vector;
 
 use libc::STDIN_FILENO;
-use libc::STDOUT_FILENO;
+use report::fill;
 use report::report;
 use vector::expand;
-use vector::name_length;
 use vector::room;
-
-fn put_name(v: &[u8; 192]) {
-    let n = name_length(v);
-    let all: &[u8] = v;
-    io::write_all(STDOUT_FILENO, &all[0..n]);
-}
+use vectors::put;
+use vectors::put_name;
 
 fn run_vector(v: &[u8; 192], codes: &mut [u16], out: &mut [u8]) {
     let n = expand(v, codes);
@@ -30,7 +26,7 @@ fn run_vector(v: &[u8; 192], codes: &mut [u16], out: &mut [u8]) {
     report(answer, out);
 }
 
-// One vector; false at the end of the input. The slice is filled with # first.
+// One vector; false at the end of the input. The slice is filled first, with a number that goes by the place.
 fn run_one() -> bool {
     let mut v = [0u8; 192];
     let got = io::read_full(STDIN_FILENO, &mut v);
@@ -38,10 +34,12 @@ fn run_one() -> bool {
         return false;
     }
     let mut codes = [0u16; 8200];
-    let mut out = [35u8; 65536];
-    put_name(&v);
+    let mut out = [0u8; 65536];
+    fill(&mut out);
+    let length = v[40];
+    put_name(&v, length);
     run_vector(&v, &mut codes, &mut out);
-    io::write_all(STDOUT_FILENO, b"\n");
+    put(b"\n");
     true
 }
 

@@ -1,17 +1,8 @@
 // One line's end for an answer.
-ghost use mathlib.Core.Path.{_≡_};
-ghost use Prim.Native.Nat.{_≤_, _<_};
 use libc::STDOUT_FILENO;
 use text::TextAnswer;
-
-fn put(text: &[u8]) {
-    io::write_all(STDOUT_FILENO, text);
-}
-
-fn put_number(n: u64) {
-    put(b" ");
-    io::print_decimal(STDOUT_FILENO, n);
-}
+use vectors::put;
+use vectors::put_number;
 
 // A sum over bytes and places, to tell long texts apart.
 fn sum(out: &[u8]) -> u64 {
@@ -24,11 +15,24 @@ fn sum(out: &[u8]) -> u64 {
     s
 }
 
+// What the byte at an index is filled with: no ASCII.
+fn filling(i: usize) -> u8 {
+    128 + (i % 127) as u8
+}
+
+pub fn fill(out: &mut [u8]) {
+    let mut i = 0;
+    while i < out.len() {
+        out[i] = filling(i);
+        i += 1;
+    }
+}
+
 // Are all bytes from an index on as they were filled?
 fn kept(out: &[u8], from: usize) -> bool {
     let mut i = from;
     while i < out.len() {
-        if out[i] != 35 {
+        if out[i] != filling(i) {
             return false;
         }
         i += 1;

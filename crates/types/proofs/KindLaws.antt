@@ -8,8 +8,8 @@ use borrow.Author.Tests.{eq-eqb, ne-eqb, le-leb, lt-leb}
 use Rattle.names.specs.Elementary.{isName}
 use Rattle.names.proofs.Codes.{name-small, name-not-array}
 use Rattle.types.specs.Kind.{kindOf}
-use Rattle.types.specs.declared.Kind.{Kind}
-use Rattle.types.specs.declared.Kind.the-variants.{Name, Array, Tuple, Unknown}
+use Rattle.types.specs.declared.CodeKind.{CodeKind}
+use Rattle.types.specs.declared.CodeKind.the-variants.{Name, Array, Tuple, Unknown}
 
 -- the four answers of `kind_of`, by the tests in their order
 module _ (c : ℕ) where
@@ -32,7 +32,7 @@ module _ (c : ℕ) where
   is-unknown n h r e t = rw (by-name n h, ← e, t)
 
 -- what a number of a kind is
-abbrev pub Says : ℕ → Kind → Type 0
+abbrev pub Says : ℕ → CodeKind → Type 0
 Says c Name = isName c ≡ true
 Says c Array = c ≡ 5
 Says c (Tuple n) = (c ≡ 16384 + n) × (2 ≤ n)

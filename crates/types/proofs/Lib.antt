@@ -6,3 +6,4 @@ pub mod Roots
 pub mod Sizes
 pub mod Unique
 pub mod Nodes
+pub mod Joined

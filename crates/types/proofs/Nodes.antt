@@ -8,11 +8,12 @@ use lib.ListN.{length}
 use Rattle.types.specs.Tree.{AbiType, AbiTypes, nil, cons, count, append, wellFormed}
 use Rattle.types.specs.Codes.{codes, Spells}
 use Rattle.types.specs.Kind.{kindOf}
-use Rattle.types.specs.declared.Kind.the-variants.{Unknown}
+use Rattle.types.specs.declared.CodeKind.the-variants.{Unknown}
 use Rattle.types.proofs.Formed.{head-formed, tail-formed, cons-formed}
 use Rattle.types.proofs.Append.{codes-append, count-append, formed-left, formed-right, formed-both, split}
 use Rattle.types.proofs.Sizes.{count-codes}
-use Rattle.types.proofs.Roots.{root, parts, codes-cons, Follows, follows-only, unknown-follows, root-follows, parts-formed, whole}
+use Rattle.types.specs.Root.{root, parts}
+use Rattle.types.proofs.Roots.{codes-cons, Follows, follows-only, unknown-follows, root-follows, parts-formed, whole}
 
 -- the codes are those of n types or more
 pub record Wanted (n : ℕ) (cs : List ℕ) : Type 0 where

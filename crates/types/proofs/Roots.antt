@@ -8,22 +8,11 @@ use Rattle.names.specs.Elementary.{Elementary, isName, codeOf, ofCode}
 use Rattle.names.proofs.Codes.{code-is-name, of-code, name-small, name-not-array, name-is-code, name-has-width}
 use Rattle.types.specs.Tree.{AbiType, AbiTypes, elementary, array, tuple, nil, cons, count, wellFormed, allWellFormed}
 use Rattle.types.specs.Codes.{codes, allCodes}
+use Rattle.types.specs.Root.{root, parts}
 use Rattle.types.specs.Kind.{kindOf}
-use Rattle.types.specs.declared.Kind.the-variants.{Name, Array, Tuple, Unknown}
+use Rattle.types.specs.declared.CodeKind.the-variants.{Name, Array, Tuple, Unknown}
 use Rattle.types.proofs.KindLaws.{name-kind, array-kind, tuple-kind, kind-name, kind-array, kind-tuple, kind-unknown}
 use Rattle.types.proofs.Formed.{head-formed, cons-formed, tuple-count, tuple-parts, tuple-formed}
-
--- the first code
-unfoldable pub root : AbiType → ℕ
-root (elementary e) = codeOf e
-root (array t) = 5
-root (tuple ts) = 16384 + count ts
-
--- the types that follow it
-unfoldable pub parts : AbiType → AbiTypes
-parts (elementary e) = nil
-parts (array t) = cons t nil
-parts (tuple ts) = ts
 
 -- the codes of a type are its first code and the codes of its parts
 pub codes-root : (t : AbiType) → codes t ≡ root t ∷ allCodes (parts t)

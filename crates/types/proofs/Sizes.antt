@@ -1,11 +1,12 @@
 -- How many codes a type has, beside the number of its parts and its levels. Assumes nothing.
 use mathlib.Core.Path.{_≡_, refl, ap}
-use Prim.Native.Nat.{suc, _+_, _≤_}
+use Prim.Native.Nat.{ℕ, suc, _+_, _≤_, max}
 use native.Mathlib.Omega.{arith}
 use lib.ListN.{length, length-append}
-use Rattle.types.specs.Tree.{AbiType, AbiTypes, elementary, array, tuple, nil, cons, count, levels, mostLevels}
+use Rattle.types.specs.Tree.{AbiType, AbiTypes, elementary, array, tuple, nil, cons, count, append, levels, mostLevels}
 use Rattle.types.specs.Codes.{codes, allCodes}
-use Rattle.types.proofs.Roots.{parts, codes-root, every-type, every-list}
+use Rattle.types.specs.Root.{parts}
+use Rattle.types.proofs.Roots.{codes-root, every-type, every-list}
 
 -- a type has one code more than its parts together
 pub codes-length : (t : AbiType) → length (codes t) ≡ suc (length (allCodes (parts t)))
@@ -71,3 +72,23 @@ levels-codes = every-type LowType LowList none-low more-low whole-low
 -- nor has any type of a list more levels than the list has codes
 pub most-levels-codes : (ts : AbiTypes) → mostLevels ts ≤ length (allCodes ts)
 most-levels-codes = every-list LowType LowList none-low more-low whole-low
+
+-- lists joined have the levels of the one that has more
+pub most-append : (ts us : AbiTypes) → mostLevels (append ts us) ≡ max (mostLevels ts) (mostLevels us)
+unfolding levels append
+most-append nil us = omega arith
+most-append (cons t ts) us = omega (arith, most-append ts us)
+
+-- no entry has more levels than the list
+pub entry-levels : (us : AbiTypes) (t : AbiType) (vs : AbiTypes) → levels t ≤ mostLevels (append us (cons t vs))
+unfolding levels
+entry-levels us t vs = omega (arith, most-append us (cons t vs))
+
+-- and the list has n at most, if each entry has
+pub most-levels : (n : ℕ) (ts : AbiTypes) → ((us : AbiTypes) (t : AbiType) (vs : AbiTypes) → ts ≡ append us (cons t vs) → levels t ≤ n) → mostLevels ts ≤ n
+unfolding levels append
+most-levels n nil h = omega arith
+most-levels n (cons t ts) h =
+    let rest = most-levels n ts (λ us u vs e. h (cons t us) u vs (ap (cons t) e)) in
+    let first = h nil t ts refl in
+    omega arith

@@ -7,7 +7,8 @@ use native.Mathlib.Omega.{arith}
 use Rattle.types.specs.Tree.{AbiType, AbiTypes, nil, cons, count, wellFormed, allWellFormed}
 use Rattle.types.specs.Codes.{codes, allCodes, Spells}
 use Rattle.types.proofs.Formed.{head-formed, tail-formed}
-use Rattle.types.proofs.Roots.{root, parts, codes-root, codes-cons, every-type, every-list, follows-only, root-follows, parts-formed, same-type}
+use Rattle.types.specs.Root.{root, parts}
+use Rattle.types.proofs.Roots.{codes-root, codes-cons, every-type, every-list, follows-only, root-follows, parts-formed, same-type}
 
 -- no other type has the same codes in front
 abbrev TypeOnly : AbiType → Type 0

@@ -1,12 +1,12 @@
--- What a number says at the place of a type. Assumes nothing.
+-- What a number means where a type begins. Assumes nothing.
 use Prim.Native.Nat.{ℕ, _+_, _-_}
 use mathlib.Core.Bool.{cond}
 use lib.Dec.{eqb, leb}
 use Rattle.limits.specs.Codes as code
 use Rattle.names.specs.Elementary.{isName}
-use Rattle.types.specs.declared.Kind.{Kind}
-use Rattle.types.specs.declared.Kind.the-variants.{Name, Array, Tuple, Unknown}
+use Rattle.types.specs.declared.CodeKind.{CodeKind}
+use Rattle.types.specs.declared.CodeKind.the-variants.{Name, Array, Tuple, Unknown}
 
--- "5 array", "16384 + n a tuple of n types (n at least 2)", or a name
-unfoldable pub kindOf : ℕ → Kind
+-- "5 array (its element follows)", "16384 + n a tuple of n types that follow (n at least 2)", or a name
+unfoldable pub kindOf : ℕ → CodeKind
 kindOf c = cond (eqb c code.array) Array (cond (leb (code.tuple + 2) c) (Tuple (c - code.tuple)) (cond (isName c) Name Unknown))

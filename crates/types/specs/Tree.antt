@@ -1,8 +1,9 @@
--- Types as trees, by the ABI specification's section "Types", as far as document 01 has codes for them. Assumes nothing.
+-- Types as trees, by the ABI specification's section "Types", as far as document 01 has codes for them: no arrays of fixed length, no fixed-point numbers,
+-- no function, and no tuples of fewer than two types. Assumes nothing.
 use Prim.Native.Nat.{ℕ, suc, max}
 use mathlib.Core.Bool.{Bool, true, _&&_}
 use lib.Dec.{leb}
-use Rattle.names.specs.Elementary.{Elementary, hasWidth}
+use Rattle.names.specs.Elementary.{Elementary, goodWidth}
 
 mutual
   -- a type: one with no type inside, an array of a type, or a tuple of types
@@ -25,10 +26,10 @@ unfoldable pub append : AbiTypes → AbiTypes → AbiTypes
 append nil us = us
 append (cons t ts) us = cons t (append ts us)
 
--- document 01's "An ABI type (a well-formed one)": widths as they must be, tuples of two or more types
+-- document 01's "An ABI type (a well-formed one)": question 2's widths, tuples of two or more types
 unfoldable mutual
   pub wellFormed : AbiType → Bool
-  wellFormed (elementary e) = hasWidth e
+  wellFormed (elementary e) = goodWidth e
   wellFormed (array t) = wellFormed t
   wellFormed (tuple ts) = leb 2 (count ts) && allWellFormed ts
 

@@ -6,25 +6,25 @@ use limits::codes::TUPLE;
 use names::is_name;
 
 // A number at the place of a type.
-pub enum Kind {
+pub enum CodeKind {
     Name,
     Array,
     Tuple(u32),
     Unknown,
 }
 
-pub fn kind_of(code: u16) -> Kind
+pub fn kind_of(code: u16) -> CodeKind
     ensures { λ r. ⌜ r ≡ kindOf code ⌝ }
 {
     let number = code as u32;
     if number == ARRAY {
-        return Kind::Array;
+        return CodeKind::Array;
     }
     if TUPLE + 2 <= number {
-        return Kind::Tuple(number - TUPLE);
+        return CodeKind::Tuple(number - TUPLE);
     }
     if is_name(number) {
-        return Kind::Name;
+        return CodeKind::Name;
     }
-    Kind::Unknown
+    CodeKind::Unknown
 }

@@ -1,6 +1,6 @@
 -- `text::call::text`, answer by answer. Assumes nothing.
 use borrow.Author.Needs.{needs}
-use Rattle.text.proofs.Calls.{told-many, told-not, told-long, text-fits, told-written}
+use Rattle.text.proofs.Calls.{many-codes, not-types, no-room, text-fits, all-written}
 use Rattle.text.proofs.call.text.Statement.{statement}
 use Rattle.text.proofs.call.text.Tie as tie
 
@@ -8,12 +8,12 @@ pub text-spec : {M : Type 1} → statement M
 text-spec =
     tie.close
     (tie.spec
-    (λ c. search (told-many, needs))
+    (λ c. search (many-codes, needs))
     (λ c κs. search needs)
     (λ c. search needs)
     (λ c. search needs)
-    (λ c. search (told-not, needs))
-    (λ c. search (told-long, needs))
+    (λ c. search (not-types, needs))
+    (λ c. search (no-room, needs))
     (λ c κs. search (text-fits, needs))
     (λ c. search needs)
-    (λ c. search (told-written, needs)))
+    (λ c. search (all-written, needs)))

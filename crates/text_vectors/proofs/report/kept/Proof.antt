@@ -6,6 +6,7 @@ use Rattle.text_vectors.proofs.report.kept.Statement.{statement}
 use Rattle.text_vectors.proofs.report.kept.Tie as tie
 use Rattle.text_vectors.proofs.report.kept.Reads as reads
 use Rattle.text_vectors.proofs.report.kept.Lts as lts
+use Rattle.text_vectors.proofs.report.filling.Reads as filling-reads
 
 abbrev Inv-loop : tie.InvT-loop
 Inv-loop out from i₀ i = Unit {0}
@@ -18,6 +19,9 @@ loop-holds c = tt
 
 shared-slice-read-if1 : tie.Need-shared-slice-read-if1 Inv-loop μ-loop
 shared-slice-read-if1 c = search needs
+
+filling-requires : tie.Need-filling-requires Inv-loop μ-loop
+filling-requires c κs = search needs
 
 returns : tie.Need-returns Inv-loop μ-loop
 returns c = tt
@@ -42,6 +46,7 @@ kept-spec =
     μ-loop
     loop-holds
     shared-slice-read-if1
+    filling-requires
     returns
     add-i
     loop-less

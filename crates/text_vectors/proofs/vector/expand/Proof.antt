@@ -1,6 +1,6 @@
 -- `text_vectors::vector::expand`: the runs stay inside the slice. Assumes nothing.
 use borrow.Author.Needs.{needs}
-use Prim.Native.Nat.{_-_, _≤_}
+use Prim.Native.Nat.{_≤_}
 use mathlib.Core.Path.{_≡_}
 use lib.ListN.{length}
 use Rattle.text_vectors.proofs.vector.expand.Statement.{statement}
@@ -8,32 +8,23 @@ use Rattle.text_vectors.proofs.vector.expand.Tie as tie
 use Rattle.text_vectors.proofs.vector.expand.Reads as reads
 use Rattle.text_vectors.proofs.vector.expand.Lts as lts
 use Rattle.text_vectors.proofs.vector.pair.Reads as pair-reads
-use Rattle.text_vectors.proofs.vector.put_run.Reads as put-run-reads
+use Rattle.text_vectors.proofs.vector.put_runs.Reads as put-runs-reads
 use Rattle.text_vectors.proofs.vector.runs.Reads as runs-reads
 
 abbrev Inv-loop : tie.InvT-loop
-Inv-loop v codes₀ at₀ i₀ n codes at i = (length codes ≡ length codes₀) × (at ≤ 65536) × (n ≤ 36)
+Inv-loop v codes₀ block left₀ at₀ codes left at = (length codes ≡ length codes₀) × (at ≤ 65536) × (block ≤ 36)
 
 abbrev μ-loop : tie.MeasureT-loop
-μ-loop v codes₀ at₀ i₀ n codes at i = n - i
+μ-loop v codes₀ block left₀ at₀ codes left at = left
+
+element-copy-out-runs : tie.Need-element-copy-out-runs Inv-loop μ-loop
+element-copy-out-runs c = search needs
 
 runs-requires : tie.Need-runs-requires Inv-loop μ-loop
 runs-requires c κs = search needs
 
-loop-holds : tie.Need-loop-holds Inv-loop μ-loop
-loop-holds c = search needs
-
-mul-p : tie.Need-mul-p Inv-loop μ-loop
-mul-p c = search needs
-
-add-p : tie.Need-add-p Inv-loop μ-loop
-add-p c = search needs
-
 element-copy-out-pair : tie.Need-element-copy-out-pair Inv-loop μ-loop
 element-copy-out-pair c = search needs
-
-add-pair : tie.Need-add-pair Inv-loop μ-loop
-add-pair c = search needs
 
 element-copy-out-pair-2 : tie.Need-element-copy-out-pair-2 Inv-loop μ-loop
 element-copy-out-pair-2 c = search needs
@@ -41,38 +32,29 @@ element-copy-out-pair-2 c = search needs
 pair-requires : tie.Need-pair-requires Inv-loop μ-loop
 pair-requires c κs = search needs
 
-cast-times : tie.Need-cast-times Inv-loop μ-loop
-cast-times c = search needs
+loop-holds : tie.Need-loop-holds Inv-loop μ-loop
+loop-holds c = search needs
 
-add-pair-2 : tie.Need-add-pair-2 Inv-loop μ-loop
-add-pair-2 c = search needs
+put-runs-requires : tie.Need-put-runs-requires Inv-loop μ-loop
+put-runs-requires c κs = search needs
 
-element-copy-out-pair-3 : tie.Need-element-copy-out-pair-3 Inv-loop μ-loop
-element-copy-out-pair-3 c = search needs
-
-add-pair-3 : tie.Need-add-pair-3 Inv-loop μ-loop
-add-pair-3 c = search needs
-
-element-copy-out-pair-4 : tie.Need-element-copy-out-pair-4 Inv-loop μ-loop
-element-copy-out-pair-4 c = search needs
-
-pair-requires-2 : tie.Need-pair-requires-2 Inv-loop μ-loop
-pair-requires-2 c κs = search needs
-
-cast-code : tie.Need-cast-code Inv-loop μ-loop
-cast-code c = search needs
-
-put-run-requires : tie.Need-put-run-requires Inv-loop μ-loop
-put-run-requires c κs = search needs
-
-add-i : tie.Need-add-i Inv-loop μ-loop
-add-i c = search needs
+sub-left : tie.Need-sub-left Inv-loop μ-loop
+sub-left c = search needs
 
 loop-less : tie.Need-loop-less Inv-loop μ-loop
 loop-less c = search needs
 
 loop-again : tie.Need-loop-again Inv-loop μ-loop
 loop-again c = search needs
+
+element-copy-out-runs-2 : tie.Need-element-copy-out-runs-2 Inv-loop μ-loop
+element-copy-out-runs-2 c = search needs
+
+runs-requires-2 : tie.Need-runs-requires-2 Inv-loop μ-loop
+runs-requires-2 c κs = search needs
+
+put-runs-requires-2 : tie.Need-put-runs-requires-2 Inv-loop μ-loop
+put-runs-requires-2 c κs = search needs
 
 same-length : tie.Need-same-length Inv-loop μ-loop
 same-length c = search needs
@@ -86,24 +68,18 @@ expand-spec =
     (tie.spec
     Inv-loop
     μ-loop
+    element-copy-out-runs
     runs-requires
-    loop-holds
-    mul-p
-    add-p
     element-copy-out-pair
-    add-pair
     element-copy-out-pair-2
     pair-requires
-    cast-times
-    add-pair-2
-    element-copy-out-pair-3
-    add-pair-3
-    element-copy-out-pair-4
-    pair-requires-2
-    cast-code
-    put-run-requires
-    add-i
+    loop-holds
+    put-runs-requires
+    sub-left
     loop-less
     loop-again
+    element-copy-out-runs-2
+    runs-requires-2
+    put-runs-requires-2
     same-length
     returns)

@@ -1,0 +1,55 @@
+-- `text_vectors::report::fill` stores inside the slice alone. Assumes nothing.
+use borrow.Author.Needs.{needs}
+use Prim.Native.Nat.{_-_}
+use mathlib.Core.Path.{_≡_}
+use lib.ListN.{length}
+use Rattle.text_vectors.proofs.report.fill.Statement.{statement}
+use Rattle.text_vectors.proofs.report.fill.Tie as tie
+use Rattle.text_vectors.proofs.report.fill.Reads as reads
+use Rattle.text_vectors.proofs.report.fill.Lts as lts
+use Rattle.text_vectors.proofs.report.filling.Reads as filling-reads
+
+abbrev Inv-loop : tie.InvT-loop
+Inv-loop out₀ i₀ out i = length out ≡ length out₀
+
+abbrev μ-loop : tie.MeasureT-loop
+μ-loop out₀ i₀ out i = length out₀ - i
+
+loop-holds : tie.Need-loop-holds Inv-loop μ-loop
+loop-holds c = search needs
+
+filling-requires : tie.Need-filling-requires Inv-loop μ-loop
+filling-requires c κs = search needs
+
+slice-write-out : tie.Need-slice-write-out Inv-loop μ-loop
+slice-write-out c = search needs
+
+add-i : tie.Need-add-i Inv-loop μ-loop
+add-i c = search needs
+
+loop-less : tie.Need-loop-less Inv-loop μ-loop
+loop-less c = search needs
+
+loop-again : tie.Need-loop-again Inv-loop μ-loop
+loop-again c = search needs
+
+same-length : tie.Need-same-length Inv-loop μ-loop
+same-length c = search needs
+
+returns : tie.Need-returns Inv-loop μ-loop
+returns c = search needs
+
+pub fill-spec : {M : Type 1} → statement M
+fill-spec =
+    tie.close
+    (tie.spec
+    Inv-loop
+    μ-loop
+    loop-holds
+    filling-requires
+    slice-write-out
+    add-i
+    loop-less
+    loop-again
+    same-length
+    returns)
