@@ -1,3 +1,4 @@
 pub mod Between
 pub mod Codes
+pub mod Fields
 pub mod Limits

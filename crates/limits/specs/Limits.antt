@@ -24,3 +24,34 @@ rangeBoundMax = 255
 -- "at most 8,192 codes"
 abbrev pub codesMax : ℕ
 codesMax = 8192
+
+-- "records of 11"
+abbrev pub recordWidth : ℕ
+recordWidth = 11
+
+-- "1 to 16,384 records"
+abbrev pub recordsMax : ℕ
+recordsMax = 16384
+
+-- "Kind is 0 none, 1 dynamic, 2 array."
+abbrev pub kindDynamic : ℕ
+kindDynamic = 1
+
+abbrev pub kindArray : ℕ
+kindArray = 2
+
+-- "at most 134,217,727 for dynamic"
+abbrev pub dynamicCountMax : ℕ
+dynamicCountMax = 134217727
+
+-- "Confidence is 1 to 20 with a name"
+abbrev pub confidenceMax : ℕ
+confidenceMax = 20
+
+-- the Rust's `MAX_ARGUMENT_WORDS`
+abbrev pub argumentWordsMax : ℕ
+argumentWordsMax = 4096
+
+-- "Confidences: .. range 6"
+abbrev pub rangeConfidence : ℕ
+rangeConfidence = 6

@@ -1,6 +1,7 @@
 // The numbers of document 01, each named once for the code; specs/ has the same names for the definitions.
 // A number joins this list with the first function that needs it.
 pub mod codes;
+pub mod fields;
 
 // Bytes of an EVM word. Keys, offsets and multipliers count in bytes, arguments and counts in words.
 pub const WORD_BYTES: u32 = 32;
@@ -19,3 +20,23 @@ pub const RANGE_BOUND_MAX: u32 = 255;
 
 // "at most 8,192 codes": the longest list.
 pub const CODES_MAX: usize = 8192;
+
+// "records of 11": numbers of a record.
+pub const RECORD_WIDTH: usize = 11;
+
+// "1 to 16,384 records".
+pub const RECORDS_MAX: u32 = 16384;
+
+// "Kind is 0 none, 1 dynamic, 2 array."
+pub const KIND_DYNAMIC: u32 = 1;
+
+pub const KIND_ARRAY: u32 = 2;
+
+// "at most 134,217,727 for dynamic": the largest dynamic count.
+pub const DYNAMIC_COUNT_MAX: u32 = 134217727;
+
+// "Confidence is 1 to 20 with a name".
+pub const CONFIDENCE_MAX: u32 = 20;
+
+// "Confidences: .. range 6": the confidence of a range name.
+pub const RANGE_CONFIDENCE: u32 = 6;

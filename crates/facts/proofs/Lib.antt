@@ -1,0 +1,13 @@
+pub mod Laws
+pub mod Counts
+pub mod Distinct
+pub mod Chains
+mod Check
+mod Scan
+mod Zeros
+mod Tests
+pub mod Whole
+pub mod Kids
+pub mod Encode
+pub mod States
+pub mod Lone

@@ -1,0 +1,17 @@
+-- `facts::fact::is_fact` meets its contract. Assumes nothing.
+use borrow.Author.Needs.{needs}
+use Rattle.facts.proofs.Tests.{fact-is}
+use Rattle.facts.proofs.fact.is_fact.Statement.{statement}
+use Rattle.facts.proofs.fact.is_fact.Tie as tie
+
+pub is-fact-spec : {M : Type 1} → statement M
+is-fact-spec =
+    tie.close
+    (tie.spec
+    (λ c κs. search needs)
+    (λ c κs. search needs)
+    (λ c κs. search needs)
+    (λ c κs. search needs)
+    (λ c κs. search needs)
+    (λ c κs. search needs)
+    (λ c. search (fact-is, needs)))

@@ -1,0 +1,13 @@
+-- `facts::fact::is_record` meets its contract. Assumes nothing.
+use borrow.Author.Needs.{needs}
+use Rattle.facts.proofs.Tests.{record-is}
+use Rattle.facts.proofs.fact.is_record.Statement.{statement}
+use Rattle.facts.proofs.fact.is_record.Tie as tie
+
+pub is-record-spec : {M : Type 1} → statement M
+is-record-spec =
+    tie.close
+    (tie.spec
+    (λ c κs. search needs)
+    (λ c κs. search needs)
+    (λ c. search (record-is, needs)))

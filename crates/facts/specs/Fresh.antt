@@ -1,0 +1,11 @@
+-- "A fresh call takes question 1 and leaves a lone root, the other records zero, active." Assumes nothing: these are definitions.
+use Prim.Native.Nat.{ℕ}
+use mathlib.Core.List.{List, [], _∷_}
+use Rattle.facts.specs.State.{root, encode}
+use Rattle.facts.specs.declared.Records.{Records}
+use Rattle.facts.specs.declared.Records.the-variants.{Count, Unfit}
+
+-- the table that a fresh call leaves, by question 1's answer; refused, it is as it was
+abbrev pub freshTable : Records → List ℕ → List ℕ
+freshTable (Count N) t = encode N (root ∷ [])
+freshTable Unfit t = t

@@ -1,0 +1,35 @@
+// The fresh call.
+ghost use mathlib.Core.Path.{_≡_};
+ghost use Prim.Native.Nat.{ℕ};
+ghost use lib.ListN.{length, replicate};
+ghost use Rattle.facts.specs.Count.{recordCount};
+ghost use Rattle.facts.specs.Fresh.{freshTable};
+use crate::Records;
+use crate::count::record_count;
+use crate::table::set_field;
+use limits::fields::SEEN;
+
+// Stores zero everywhere.
+fn clear(table: &mut [u32])
+    ensures { λ _. ⌜ now (table .exit) ≡ replicate (length (now (table .entry))) 0 ⌝ }
+{
+    let mut i = 0;
+    while i < table.len() {
+        table[i] = 0;
+        i += 1;
+    }
+}
+
+// Leaves a lone root, the other records zero, if question 1 takes the table; its answer.
+pub fn fresh(table: &mut [u32]) -> Records
+    ensures { λ r. ⌜ r ≡ recordCount (length (now (table .entry))) ⌝ }
+    ensures { λ r. ⌜ now (table .exit) ≡ freshTable r (now (table .entry)) ⌝ }
+{
+    let count = record_count(table.len());
+    let Records::Count(n) = count else {
+        return Records::Unfit;
+    };
+    clear(table);
+    set_field(table, 1, SEEN, 1);
+    Records::Count(n)
+}

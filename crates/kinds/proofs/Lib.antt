@@ -1,0 +1,3 @@
+pub mod KindLaws
+mod UpLaws
+pub mod FillLaws

@@ -1,0 +1,250 @@
+-- Names and not-bool marks: what the code's tests and calls come to, over plain numbers, tables and states. Assumes nothing.
+use Prim.Native.Nat.{ℕ, zero, suc, _+_, _≤_, _<_}
+use mathlib.Core.Path.{_≡_, refl, sym, ap, _∙_}
+use mathlib.Core.Bool.{Bool, true, false, cond, not, _&&_, _||_, and-false}
+use mathlib.Core.List.{List}
+use native.Mathlib.Omega.{arith}
+use lib.Dec.{eqb, leb}
+use lib.ListN.{length}
+use borrow.Author.Tests.{eq-eqb, ne-eqb, le-leb, lt-leb, not-true, not-false}
+use Rattle.limits.specs.Codes as code
+use Rattle.limits.specs.Fields as field
+use Rattle.limits.specs.Limits.{rangeConfidence}
+use Rattle.facts.specs.Table.{seenOf, notBoolOf, blockedOf, nameOf, confidenceOf}
+use Rattle.facts.specs.State.{Node, nodeAt, nodes, nodeOf}
+use Rattle.facts.proofs.Encode.{nodes-get}
+use Rattle.paths.specs.Shape.{Shaped}
+use Rattle.paths.specs.Update.{update}
+use Rattle.paths.specs.Find.{findTo, findIn}
+use Rattle.paths.specs.Make.{Made, ensure, getOrCreate}
+use Rattle.paths.specs.Holds.{Holds, Makes}
+use Rattle.paths.proofs.Kept.{update-key, update-parent, length-update}
+use Rattle.marks.specs.Grows.{Grows}
+use Rattle.marks.specs.Names.{isRange, dropName, giveName, isNotBool, isSeen, nameAt, nameMade, setTname, markMade, insertNotBool, dropBool, markNotBool}
+
+-- a number read from a record is its node's
+module _ (t : List ℕ) (u r v : ℕ) (r1 : 1 ≤ r) (ru : r ≤ u) where
+  node : nodeAt t r ≡ nodeOf (nodes t u) r
+  node = sym (nodes-get t u r r1 ru)
+
+  pub seen-is : v ≡ seenOf t r → v ≡ nodeOf (nodes t u) r .seen
+  seen-is e = e ∙ ap (λ (n : Node). n .seen) node
+
+  pub not-bool-is : v ≡ notBoolOf t r → v ≡ nodeOf (nodes t u) r .notBool
+  not-bool-is e = e ∙ ap (λ (n : Node). n .notBool) node
+
+  pub blocked-is : v ≡ blockedOf t r → v ≡ nodeOf (nodes t u) r .blocked
+  blocked-is e = e ∙ ap (λ (n : Node). n .blocked) node
+
+  pub name-is : v ≡ nameOf t r → v ≡ nodeOf (nodes t u) r .name
+  name-is e = e ∙ ap (λ (n : Node). n .name) node
+
+  pub confidence-is : v ≡ confidenceOf t r → v ≡ nodeOf (nodes t u) r .confidence
+  confidence-is e = e ∙ ap (λ (n : Node). n .confidence) node
+
+-- a case of a definition
+pub case-yes : {A : Type 0} (b : Bool) (x y : A) → b ≡ true → x ≡ cond b x y
+case-yes b x y e = sym (ap (λ (z : Bool). cond z x y) e)
+
+pub case-no : {A : Type 0} (b : Bool) (x y : A) → b ≡ false → y ≡ cond b x y
+case-no b x y e = sym (ap (λ (z : Bool). cond z x y) e)
+
+-- a table that is left as it was
+pub stays : (t : List ℕ) (u N : ℕ) (s : List Node) → Shaped t u N → nodes t u ≡ s → Holds t u N s
+stays t u N s S e = record { shaped = S; state = e }
+
+-- one change after another
+pub then : (f : List Node → List Node) (t t′ : List ℕ) (u N : ℕ) (s : List Node) → Holds t u N s → Holds t′ u N (f (nodes t u)) → Holds t′ u N (f s)
+then f t t′ u N s H K = record { shaped = K .shaped; state = K .state ∙ ap f (H .state) }
+
+-- the same state by another definition
+pub same-state : (t : List ℕ) (u N : ℕ) (s s′ : List Node) → Holds t u N s → s ≡ s′ → Holds t u N s′
+same-state t u N s s′ H e = record { shaped = H .shaped; state = H .state ∙ e }
+
+pub given : (t t₁ t₂ : List ℕ) (u N r name confidence : ℕ) → Holds t₁ u N (update (nodes t u) r field.name name)
+    → Holds t₂ u N (update (nodes t₁ u) r field.confidence confidence) → Holds t₂ u N (giveName (nodes t u) r name confidence)
+given t t₁ t₂ u N r name confidence H K = then (λ (s : List Node). update s r field.confidence confidence) t₁ t₂ u N (update (nodes t u) r field.name name) H K
+
+-- a path that is not there is neither seen nor marked
+module _ (s : List Node) (p k c : ℕ) (e : c ≡ findIn s p k) where
+  path-none : (b : Bool) → c ≡ 0 → false ≡ (not (eqb (findIn s p k) 0) && b)
+  path-none b z = rw (eq-eqb (findIn s p k) 0 (sym e ∙ z)) refl
+
+  path-some : (b : Bool) → (c ≡ 0 → ⊥) → b ≡ (not (eqb (findIn s p k) 0) && b)
+  path-some b n = rw (ne-eqb (findIn s p k) 0 (λ z. n (e ∙ z))) refl
+
+  pub seen-none : c ≡ 0 → false ≡ isSeen s p k
+  seen-none z = path-none (eqb (nodeOf s (findIn s p k) .seen) 1) z
+
+  pub not-bool-none : c ≡ 0 → false ≡ isNotBool s p k
+  not-bool-none z = path-none (eqb (nodeOf s (findIn s p k) .notBool) 1) z
+
+module _ (t : List ℕ) (u p k c : ℕ) (e : c ≡ findIn (nodes t u) p k) (cu : c ≤ u) (n : c ≡ 0 → ⊥) where
+  pub seen-some : (v : ℕ) → v ≡ seenOf t c → eqb v 1 ≡ isSeen (nodes t u) p k
+  seen-some v ev =
+      ap (λ (x : ℕ). eqb x 1) (seen-is t u c v (omega arith) cu ev) ∙ ap (λ (r : ℕ). eqb (nodeOf (nodes t u) r .seen) 1) e
+      ∙ path-some (nodes t u) p k c e (eqb (nodeOf (nodes t u) (findIn (nodes t u) p k) .seen) 1) n
+
+  pub not-bool-some : (v : ℕ) → v ≡ notBoolOf t c → eqb v 1 ≡ isNotBool (nodes t u) p k
+  not-bool-some v ev =
+      ap (λ (x : ℕ). eqb x 1) (not-bool-is t u c v (omega arith) cu ev) ∙ ap (λ (r : ℕ). eqb (nodeOf (nodes t u) r .notBool) 1) e
+      ∙ path-some (nodes t u) p k c e (eqb (nodeOf (nodes t u) (findIn (nodes t u) p k) .notBool) 1) n
+
+-- the name at a record: does a block stop it, does the standing one keep its place?
+abbrev pub stops : List Node → ℕ → ℕ → Bool
+stops s r confidence = eqb confidence rangeConfidence && eqb (nodeOf s r .blocked) 1
+
+abbrev pub keeps : List Node → ℕ → ℕ → Bool
+keeps s r confidence = not (eqb (nodeOf s r .name) code.noName) && leb confidence (nodeOf s r .confidence)
+
+module _ (t : List ℕ) (u r confidence : ℕ) (r1 : 1 ≤ r) (ru : r ≤ u) where
+  pub no-range : (confidence ≡ rangeConfidence → ⊥) → stops (nodes t u) r confidence ≡ false
+  no-range n = rw (ne-eqb confidence rangeConfidence n) refl
+
+  pub no-block : (v : ℕ) → v ≡ blockedOf t r → (v ≡ 1 → ⊥) → stops (nodes t u) r confidence ≡ false
+  no-block v e n = simp (ne-eqb (nodeOf (nodes t u) r .blocked) 1 (λ z. n (blocked-is t u r v r1 ru e ∙ z)), and-false)
+
+  pub no-name : (v : ℕ) → v ≡ nameOf t r → v ≡ code.noName → keeps (nodes t u) r confidence ≡ false
+  no-name v e z = rw (eq-eqb (nodeOf (nodes t u) r .name) code.noName (sym (name-is t u r v r1 ru e) ∙ z)) refl
+
+  pub less-sure : (w : ℕ) → w ≡ confidenceOf t r → w < confidence → keeps (nodes t u) r confidence ≡ false
+  less-sure w e l =
+      let q = confidence-is t u r w r1 ru e in
+      simp (lt-leb confidence (nodeOf (nodes t u) r .confidence) (omega arith), and-false)
+
+module _ (t : List ℕ) (u N r name confidence : ℕ) (r1 : 1 ≤ r) (ru : r ≤ u) where
+  pub name-stopped : (v : ℕ) → Shaped t u N → confidence ≡ rangeConfidence → v ≡ blockedOf t r → v ≡ 1 → Holds t u N (nameAt (nodes t u) r name confidence)
+  name-stopped v S c e z =
+      let a = eq-eqb confidence rangeConfidence c in
+      let b = eq-eqb (nodeOf (nodes t u) r .blocked) 1 (sym (blocked-is t u r v r1 ru e) ∙ z) in
+      stays t u N (nameAt (nodes t u) r name confidence) S
+      (case-yes (stops (nodes t u) r confidence) (nodes t u) (cond (keeps (nodes t u) r confidence) (nodes t u) (giveName (nodes t u) r name confidence)) (λ i. a i && b i))
+
+  pub name-kept : (v w : ℕ) → Shaped t u N → stops (nodes t u) r confidence ≡ false → v ≡ nameOf t r → (v ≡ code.noName → ⊥) → w ≡ confidenceOf t r → confidence ≤ w
+      → Holds t u N (nameAt (nodes t u) r name confidence)
+  name-kept v w S f ev n ew l =
+      let a = ne-eqb (nodeOf (nodes t u) r .name) code.noName (λ z. n (name-is t u r v r1 ru ev ∙ z)) in
+      let q = confidence-is t u r w r1 ru ew in
+      let b = le-leb confidence (nodeOf (nodes t u) r .confidence) (omega arith) in
+      stays t u N (nameAt (nodes t u) r name confidence) S
+      (case-yes (keeps (nodes t u) r confidence) (nodes t u) (giveName (nodes t u) r name confidence) (λ i. not (a i) && b i)
+      ∙ case-no (stops (nodes t u) r confidence) (nodes t u) (cond (keeps (nodes t u) r confidence) (nodes t u) (giveName (nodes t u) r name confidence)) f)
+
+  pub name-new : (t′ : List ℕ) → stops (nodes t u) r confidence ≡ false → keeps (nodes t u) r confidence ≡ false → Holds t′ u N (giveName (nodes t u) r name confidence)
+      → Holds t′ u N (nameAt (nodes t u) r name confidence)
+  name-new t′ f g H =
+      same-state t′ u N (giveName (nodes t u) r name confidence) (nameAt (nodes t u) r name confidence) H
+      (case-no (keeps (nodes t u) r confidence) (nodes t u) (giveName (nodes t u) r name confidence) g
+      ∙ case-no (stops (nodes t u) r confidence) (nodes t u) (cond (keeps (nodes t u) r confidence) (nodes t u) (giveName (nodes t u) r name confidence)) f)
+
+-- a name set at a path: does a not-bool mark bar it?
+abbrev pub bars : List Node → ℕ → ℕ → ℕ → ℕ → Bool
+bars s p k name confidence = (eqb name code.bool || eqb confidence rangeConfidence) && isNotBool s p k
+
+module _ (s : List Node) (p k name confidence : ℕ) where
+  pub no-bar : (eqb name code.bool || eqb confidence rangeConfidence) ≡ false → bars s p k name confidence ≡ false
+  no-bar e = rw e refl
+
+  pub no-mark : (b : Bool) → b ≡ isNotBool s p k → b ≡ false → bars s p k name confidence ≡ false
+  no-mark b e z = simp (sym e ∙ z, and-false)
+
+module _ (u N : ℕ) (s : List Node) (p k name confidence : ℕ) where
+  pub tname-barred : (t : List ℕ) (b : Bool) → Shaped t u N → nodes t u ≡ s → (eqb name code.bool || eqb confidence rangeConfidence) ≡ true → b ≡ isNotBool s p k
+      → b ≡ true → Grows u (setTname s p k name confidence) t u N
+  unfolding setTname
+  tname-barred t b S q a e z = record {
+    shaped = S;
+    state = q ∙ case-yes (bars s p k name confidence) s (nameMade (getOrCreate s p k) name confidence) (λ i. a i && (sym e ∙ z) i);
+    range = (omega arith, omega arith);
+  }
+
+  pub tname-set : (t t′ : List ℕ) (used r : ℕ) → bars s p k name confidence ≡ false → Makes u (getOrCreate s p k) t used N r → Holds t′ used N (nameAt (nodes t used) r name confidence)
+      → Grows u (setTname s p k name confidence) t′ used N
+  unfolding setTname
+  tname-set t t′ used r f M H = record {
+    shaped = H .shaped;
+    state = H .state ∙ (λ i. nameAt (M .state i) (M .number i) name confidence) ∙ case-no (bars s p k name confidence) s (nameMade (getOrCreate s p k) name confidence) f;
+    range = (M .range .2, M .range .3);
+  }
+
+-- a not-bool mark at a path
+pub marked : (u N : ℕ) (s : List Node) (p k : ℕ) (t t′ : List ℕ) (used r : ℕ) → Makes u (ensure s p k) t used N r → Holds t′ used N (update (nodes t used) r field.notBool 1)
+    → Grows u (insertNotBool s p k) t′ used N
+unfolding insertNotBool
+marked u N s p k t t′ used r M H = record {
+  shaped = H .shaped;
+  state = H .state ∙ (λ i. update (M .state i) (M .number i) field.notBool 1);
+  range = (M .range .2, M .range .3);
+}
+
+-- a bool or a range name dropped
+module _ (t : List ℕ) (u N p k : ℕ) (b : Bool) (eb : b ≡ isSeen (nodes t u) p k) where
+  abbrev Loose : ℕ → Bool
+  Loose r = eqb (nodeOf (nodes t u) r .name) code.bool || isRange (nodeOf (nodes t u) r)
+
+  abbrev Drops : Bool
+  Drops = isSeen (nodes t u) p k && Loose (findIn (nodes t u) p k)
+
+  no-drop : Shaped t u N → Drops ≡ false → Holds t u N (dropBool (nodes t u) p k)
+  no-drop S e = stays t u N (dropBool (nodes t u) p k) S (case-no Drops (dropName (nodes t u) (findIn (nodes t u) p k)) (nodes t u) e)
+
+  pub drop-unseen : Shaped t u N → not b ≡ true → Holds t u N (dropBool (nodes t u) p k)
+  drop-unseen S e = no-drop S (let q : isSeen (nodes t u) p k ≡ false = sym eb ∙ not-true b e in ap (λ (x : Bool). x && Loose (findIn (nodes t u) p k)) q)
+
+  pub drop-none : (c : ℕ) → Shaped t u N → c ≡ findIn (nodes t u) p k → c ≡ 0 → Holds t u N (dropBool (nodes t u) p k)
+  drop-none c S e z =
+      no-drop S (ap (λ (x : Bool). x && Loose (findIn (nodes t u) p k)) (sym (seen-none (nodes t u) p k c e z)))
+
+  module _ (c v w : ℕ) (e : c ≡ findIn (nodes t u) p k) (cu : c ≤ u) (n : c ≡ 0 → ⊥) (ev : v ≡ nameOf t c) (ew : w ≡ confidenceOf t c) where
+    loose-is : (eqb v code.bool || eqb w rangeConfidence) ≡ Loose (findIn (nodes t u) p k)
+    loose-is =
+        (λ i. eqb (name-is t u c v (omega arith) cu ev i) code.bool || eqb (confidence-is t u c w (omega arith) cu ew i) rangeConfidence)
+        ∙ (λ i. Loose (e i))
+
+    pub drop-held : Shaped t u N → (eqb v code.bool || eqb w rangeConfidence) ≡ false → Holds t u N (dropBool (nodes t u) p k)
+    drop-held S z = no-drop S (let q : Loose (findIn (nodes t u) p k) ≡ false = sym loose-is ∙ z in simp (q, and-false))
+
+    pub drop-loose : (t′ : List ℕ) → not b ≡ false → (eqb v code.bool || eqb w rangeConfidence) ≡ true → Holds t′ u N (dropName (nodes t u) c)
+        → Holds t′ u N (dropBool (nodes t u) p k)
+    drop-loose t′ s z H =
+        let a : isSeen (nodes t u) p k ≡ true = sym eb ∙ not-false b s in
+        let l : Loose (findIn (nodes t u) p k) ≡ true = sym loose-is ∙ z in
+        same-state t′ u N (dropName (nodes t u) c) (dropBool (nodes t u) p k) H
+        (ap (λ (r : ℕ). dropName (nodes t u) r) e ∙ case-yes Drops (dropName (nodes t u) (findIn (nodes t u) p k)) (nodes t u) (λ i. a i && l i))
+
+-- a path is found by keys and parents alone
+pub find-same : (s s′ : List Node) (p k : ℕ) → ((r : ℕ) → nodeOf s′ r .key ≡ nodeOf s r .key) → ((r : ℕ) → nodeOf s′ r .parent ≡ nodeOf s r .parent)
+    → (n : ℕ) → findTo s′ p k n ≡ findTo s p k n
+unfolding findTo
+find-same s s′ p k key parent zero = refl
+find-same s s′ p k key parent (suc n) =
+    λ i. cond (eqb (parent (suc n) i) p && eqb (key (suc n) i) k) (suc n) (find-same s s′ p k key parent n i)
+
+pub find-update : (s : List Node) (r f v p k : ℕ) → findIn (update s r f v) p k ≡ findIn s p k
+unfolding findIn
+find-update s r f v p k =
+    ap (findTo (update s r f v) p k) (length-update s r f v)
+    ∙ find-same s (update s r f v) p k (update-key s r f v) (update-parent s r f v) (length s)
+
+pub find-drop-name : (s : List Node) (r p k : ℕ) → findIn (dropName s r) p k ≡ findIn s p k
+find-drop-name s r p k = find-update (update s r field.name code.noName) r field.confidence 0 p k ∙ find-update s r field.name code.noName p k
+
+pub find-drop-bool : (s : List Node) (p k : ℕ) → findIn (dropBool s p k) p k ≡ findIn s p k
+find-drop-bool s p k = go (isSeen s p k && (eqb (nodeOf s (findIn s p k) .name) code.bool || isRange (nodeOf s (findIn s p k))))
+  where
+    go : (b : Bool) → findIn (cond b (dropName s (findIn s p k)) s) p k ≡ findIn s p k
+    go true = find-drop-name s (findIn s p k) p k
+    go false = refl
+
+pub drop-room : (t t′ : List ℕ) (u N p k : ℕ) → Holds t′ u N (dropBool (nodes t u) p k) → (findIn (nodes t u) p k ≡ 0 → u < N)
+    → findIn (nodes t′ u) p k ≡ 0 → u < N
+drop-room t t′ u N p k H room z = room (sym (find-drop-bool (nodes t u) p k) ∙ ap (λ (s : List Node). findIn s p k) (sym (H .state)) ∙ z)
+
+pub drop-marked : (t t′ t″ : List ℕ) (u N p k used : ℕ) → Holds t′ u N (dropBool (nodes t u) p k) → Grows u (insertNotBool (nodes t′ u) p k) t″ used N
+    → Grows u (markNotBool (nodes t u) p k) t″ used N
+unfolding markNotBool
+drop-marked t t′ t″ u N p k used H G = record {
+  shaped = G .shaped;
+  state = G .state ∙ ap (λ (s : List Node). insertNotBool s p k) (H .state);
+  range = G .range;
+}

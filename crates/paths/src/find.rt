@@ -1,0 +1,46 @@
+// Looking a path up.
+ghost use mathlib.Core.Path.{_≡_};
+ghost use Prim.Native.Nat.{_≤_};
+ghost use Rattle.facts.specs.Table.{parentOf};
+ghost use Rattle.facts.specs.Links.{Linked};
+ghost use Rattle.facts.specs.State.{nodes};
+ghost use Rattle.paths.specs.Find.{findIn};
+ghost use Rattle.paths.specs.Make.{missing};
+use facts::field;
+use limits::fields::CHILD;
+use limits::fields::KEY;
+use limits::fields::NEXT;
+
+// The child of parent with that key, 0 if there is none: a walk of one chain, up to the first key that is not lower.
+pub fn find_child(table: &[u32], used: u32, parent: u32, key: u32) -> u32
+    requires { ⌜ Linked (now table) used ⌝ }
+    requires { ⌜ parentOf (now table) 1 ≡ 0 ⌝ }
+    requires { ⌜ (1 ≤ parent) × (parent ≤ used) ⌝ }
+    ensures { λ r. ⌜ (r ≡ findIn (nodes (now (table .entry)) used) parent key) × (r ≤ used) ⌝ }
+{
+    let mut c = field(table, parent, CHILD);
+    while c != 0 {
+        let k = field(table, c, KEY);
+        if k == key {
+            return c;
+        }
+        if key < k {
+            return 0;
+        }
+        c = field(table, c, NEXT);
+    }
+    0
+}
+
+// How many paths `ensure_child` would add, 0 or 1.
+pub fn missing(table: &[u32], used: u32, parent: u32, key: u32) -> u32
+    requires { ⌜ Linked (now table) used ⌝ }
+    requires { ⌜ parentOf (now table) 1 ≡ 0 ⌝ }
+    requires { ⌜ (1 ≤ parent) × (parent ≤ used) ⌝ }
+    ensures { λ r. ⌜ (r ≡ missing (nodes (now (table .entry)) used) parent key) × (r ≤ 1) ⌝ }
+{
+    if find_child(table, used, parent, key) == 0 {
+        return 1;
+    }
+    0
+}

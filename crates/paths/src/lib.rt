@@ -1,0 +1,20 @@
+// The paths of a table: looked up, made, and made seen. specs/ has what that does to the state that a table stands for.
+mod find;
+mod insert;
+mod make;
+mod node;
+mod seen;
+
+pub use find::find_child;
+pub use find::missing;
+pub use insert::insert_child;
+pub use make::ensure_child;
+pub use make::get_or_create;
+pub use node::store;
+pub use seen::make_seen;
+
+// How many records are used after a call, and the number of one.
+pub struct Reached {
+    pub used: u32,
+    pub number: u32,
+}
