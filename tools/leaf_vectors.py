@@ -341,12 +341,17 @@ def dense():
     add('packed at pc ffffffff', 25, x=36, n=(1 << 32) - 1, code=bytes([DUP1]) + push(0xFFFE, 2) + tail)
 
 
-for make in (masks, words, opcodes, guards, reverts, divisions, lengths, dense):
-    make()
-if sys.argv[1:] == ['stdin']:
-    sys.stdout.buffer.write(b''.join(map(packed_form, VECTORS)))
-elif sys.argv[1:] == ['stdout']:
-    for v in VECTORS:
-        print(v['name'], KINDS[v['kind']](v))
-else:
-    sys.exit(__doc__)
+def main():
+    for make in (masks, words, opcodes, guards, reverts, divisions, lengths, dense):
+        make()
+    if sys.argv[1:] == ['stdin']:
+        sys.stdout.buffer.write(b''.join(map(packed_form, VECTORS)))
+    elif sys.argv[1:] == ['stdout']:
+        for v in VECTORS:
+            print(v['name'], KINDS[v['kind']](v))
+    else:
+        sys.exit(__doc__)
+
+
+if __name__ == '__main__':
+    main()

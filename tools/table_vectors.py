@@ -171,12 +171,17 @@ def packed_form(v):
     return (head + b''.join(struct.pack('>I', x) for x in numbers)).ljust(576, b'\0')
 
 
-for make in (damages, sizes, names, links, random_tables):
-    make()
-if sys.argv[1:] == ['stdin']:
-    sys.stdout.buffer.write(b''.join(map(packed_form, VECTORS)))
-elif sys.argv[1:] == ['stdout']:
-    for label, numbers, used in VECTORS:
-        print(label, answer(numbers, used))
-else:
-    sys.exit(__doc__)
+def main():
+    for make in (damages, sizes, names, links, random_tables):
+        make()
+    if sys.argv[1:] == ['stdin']:
+        sys.stdout.buffer.write(b''.join(map(packed_form, VECTORS)))
+    elif sys.argv[1:] == ['stdout']:
+        for label, numbers, used in VECTORS:
+            print(label, answer(numbers, used))
+    else:
+        sys.exit(__doc__)
+
+
+if __name__ == '__main__':
+    main()

@@ -1,93 +1,32 @@
 -- Filling the head word by word: what a word adds does not depend on the words before it, so the room can be known before any is made. Assumes
 -- nothing.
-use Prim.Native.Nat.{ℕ, zero, suc, _+_, _-_, _*_, _≤_, _<_}
+use Prim.Native.Nat.{ℕ, zero, suc, _+_, _*_, _≤_, _<_}
 use mathlib.Core.Path.{_≡_, refl, sym, ap, _∙_}
-use mathlib.Core.Bool.{Bool, true, false, cond, _&&_}
+use mathlib.Core.Bool.{cond}
 use mathlib.Core.Logic.{_⊎_, inl, inr}
-use mathlib.Core.List.{List, [], _∷_, _++_}
+use mathlib.Core.List.{List}
 use native.Mathlib.Omega.{arith}
 use native.Mathlib.Nat.{eq-or-lt-of-le}
 use native.Mathlib.Numerals.{add-one}
 use lib.Dec.{eqb}
-use lib.ListN.{length, length-append, List·getD-append}
-use lib.Seq.{getD-at}
-use borrow.Author.Tests.{eq-eqb, ne-eqb}
+use lib.ListN.{length}
+use borrow.Author.Tests.{eq-eqb}
 use Rattle.limits.specs.Limits.{wordBytes}
-use Rattle.facts.specs.State.{Node, bare, nodes, nodeOf}
+use Rattle.facts.specs.State.{Node, nodes}
 use Rattle.facts.proofs.Encode.{length-nodes}
 use Rattle.paths.specs.Shape.{Shaped}
-use Rattle.paths.specs.Find.{findTo, findIn}
-use Rattle.paths.specs.Make.{Made, ensure, missing, makeSeen, getOrCreate}
+use Rattle.paths.specs.Find.{findIn}
+use Rattle.paths.specs.Make.{missing, getOrCreate}
 use Rattle.paths.specs.Holds.{Holds, Makes}
-use Rattle.paths.proofs.Kept.{length-seen, seen-key, seen-parent}
+use Rattle.paths.proofs.Reach.{length-create}
+use Rattle.paths.proofs.Lookups.{find-create}
 use Rattle.kinds.specs.Fill.{fill, fillMissing}
-
--- a search depends on keys and parents alone
-find-same : (s s′ : List Node) (p k n : ℕ) → ((q : ℕ) → 1 ≤ q → q ≤ n → nodeOf s′ q .key ≡ nodeOf s q .key)
-    → ((q : ℕ) → 1 ≤ q → q ≤ n → nodeOf s′ q .parent ≡ nodeOf s q .parent) → findTo s′ p k n ≡ findTo s p k n
-unfolding findTo
-find-same s s′ p k zero f g = refl
-find-same s s′ p k (suc n) f g = λ i.
-    cond (eqb (g (suc n) (omega arith) (omega arith) i) p && eqb (f (suc n) (omega arith) (omega arith) i) k) (suc n)
-    (find-same s s′ p k n (λ q q1 qn. f q q1 (omega arith)) (λ q q1 qn. g q q1 (omega arith)) i)
-
-pub find-seen : (s : List Node) (r p k : ℕ) → findIn (makeSeen s r) p k ≡ findIn s p k
-unfolding findIn
-find-seen s r p k =
-    ap (findTo (makeSeen s r) p k) (length-seen s r) ∙ find-same s (makeSeen s r) p k (length s) (λ q _ _. seen-key s r q) (λ q _ _. seen-parent s r q)
-
-old-node : (s : List Node) (n : Node) (q : ℕ) → 1 ≤ q → q ≤ length s → nodeOf (s ++ n ∷ []) q ≡ nodeOf s q
-unfolding nodeOf
-old-node s n q q1 h = List·getD-append s (n ∷ []) (bare 0 0) (q - 1) (omega arith)
-
-new-node : (s : List Node) (n : Node) → nodeOf (s ++ n ∷ []) (suc (length s)) ≡ n
-unfolding nodeOf
-new-node s n = getD-at s n [] (bare 0 0) (suc (length s) - 1) (omega arith)
-
--- a new path is found by its own key alone
-find-other : (s : List Node) (p k k′ : ℕ) → (k ≡ k′ → ⊥) → findIn (s ++ bare p k ∷ []) p k′ ≡ findIn s p k′
-unfolding findIn findTo
-find-other s p k k′ n =
-    ap (findTo (s ++ bare p k ∷ []) p k′) (length-append s (bare p k ∷ []) ∙ add-one (length s))
-    ∙ (λ i. cond (eqb (new-node s (bare p k) i .parent) p && eqb (new-node s (bare p k) i .key) k′) (suc (length s)) (findTo (s ++ bare p k ∷ []) p k′ (length s)))
-    ∙ skip (eqb p p)
-    ∙ find-same s (s ++ bare p k ∷ []) p k′ (length s) (λ q q1 h. ap (λ (x : Node). x .key) (old-node s (bare p k) q q1 h))
-    (λ q q1 h. ap (λ (x : Node). x .parent) (old-node s (bare p k) q q1 h))
-  where
-    skip : (b : Bool) → cond (b && eqb k k′) (suc (length s)) (findTo (s ++ bare p k ∷ []) p k′ (length s)) ≡ findTo (s ++ bare p k ∷ []) p k′ (length s)
-    skip true = rw (ne-eqb k k′ n) refl
-    skip false = refl
-
-pub find-ensure : (s : List Node) (p k k′ : ℕ) → (k ≡ k′ → ⊥) → findIn (ensure s p k .state) p k′ ≡ findIn s p k′
-unfolding ensure
-find-ensure s p k k′ n = go (eqb (findIn s p k) 0)
-  where
-    go : (b : Bool) → findIn (cond {A = Made} b (record { state = s ++ bare p k ∷ []; number = length s + 1 }) (record { state = s; number = findIn s p k }) .state) p k′ ≡ findIn s p k′
-    go true = find-other s p k k′ n
-    go false = refl
-
-pub find-create : (s : List Node) (p k k′ : ℕ) → (k ≡ k′ → ⊥) → findIn (getOrCreate s p k .state) p k′ ≡ findIn s p k′
-unfolding getOrCreate
-find-create s p k k′ n = find-seen (ensure s p k .state) (ensure s p k .number) p k′ ∙ find-ensure s p k k′ n
-
-length-ensure : (s : List Node) (p k : ℕ) → length (ensure s p k .state) ≡ length s + missing s p k
-unfolding ensure missing
-length-ensure s p k = go (eqb (findIn s p k) 0)
-  where
-    go : (b : Bool) → length (cond {A = Made} b (record { state = s ++ bare p k ∷ []; number = length s + 1 }) (record { state = s; number = findIn s p k }) .state) ≡ length s + cond b 1 0
-    go true = length-append s (bare p k ∷ [])
-    go false = omega arith
-
--- `get_or_create` adds as many paths as were missing
-pub length-create : (s : List Node) (p k : ℕ) → length (getOrCreate s p k .state) ≡ length s + missing s p k
-unfolding getOrCreate
-length-create s p k = length-seen (ensure s p k .state) (ensure s p k .number) ∙ length-ensure s p k
 
 -- the words before do not change what a key finds
 pub find-fill : (s : List Node) (i k : ℕ) → wordBytes * i ≤ k → findIn (fill s i) 1 k ≡ findIn s 1 k
 unfolding fill
 find-fill s zero k h = refl
-find-fill s (suc i) k h = find-create (fill s i) 1 (wordBytes * i) k (λ e. omega arith) ∙ find-fill s i k (omega arith)
+find-fill s (suc i) k h = find-create (fill s i) 1 (wordBytes * i) 1 k (λ _ e. omega arith) ∙ find-fill s i k (omega arith)
 
 missing-fill : (s : List Node) (i : ℕ) → missing (fill s i) 1 (wordBytes * i) ≡ missing s 1 (wordBytes * i)
 unfolding missing

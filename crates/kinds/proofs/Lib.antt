@@ -1,3 +1,7 @@
 pub mod KindLaws
+pub mod DynamicLaws
 mod UpLaws
 pub mod FillLaws
+pub mod Counts
+pub mod KindSounds
+mod ChainLaws

@@ -1,4 +1,6 @@
 pub mod Between
 pub mod Codes
+pub mod Confidences
 pub mod Fields
+pub mod Layout
 pub mod Limits

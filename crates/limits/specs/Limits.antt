@@ -55,3 +55,18 @@ argumentWordsMax = 4096
 -- "Confidences: .. range 6"
 abbrev pub rangeConfidence : ℕ
 rangeConfidence = 6
+
+-- "Is the code at most 65,536 bytes?"
+abbrev pub codeMax : ℕ
+codeMax = 65536
+
+-- "whole slots and entries, at most 1,024 each"
+abbrev pub slotsMax : ℕ
+slotsMax = 1024
+
+abbrev pub entriesMax : ℕ
+entriesMax = 1024
+
+-- "followed for offsets 4 to 130,047"
+abbrev pub loadMax : ℕ
+loadMax = 130047

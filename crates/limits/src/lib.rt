@@ -1,7 +1,9 @@
 // The numbers of document 01, each named once for the code; specs/ has the same names for the definitions.
 // A number joins this list with the first function that needs it.
 pub mod codes;
+pub mod confidences;
 pub mod fields;
+pub mod layout;
 
 // Bytes of an EVM word. Keys, offsets and multipliers count in bytes, arguments and counts in words.
 pub const WORD_BYTES: u32 = 32;
@@ -40,3 +42,14 @@ pub const CONFIDENCE_MAX: u32 = 20;
 
 // "Confidences: .. range 6": the confidence of a range name.
 pub const RANGE_CONFIDENCE: u32 = 6;
+
+// "Is the code at most 65,536 bytes?"
+pub const CODE_MAX: usize = 65536;
+
+// "whole slots and entries, at most 1,024 each".
+pub const SLOTS_MAX: usize = 1024;
+
+pub const ENTRIES_MAX: usize = 1024;
+
+// "followed for offsets 4 to 130,047": the largest offset of a load that is followed.
+pub const LOAD_MAX: u32 = 130047;

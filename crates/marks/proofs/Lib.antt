@@ -1,2 +1,7 @@
 pub mod NameLaws
 pub mod HintLaws
+pub mod BelowLaws
+pub mod WalkLaws
+pub mod Counts
+pub mod NameSounds
+pub mod HintSounds

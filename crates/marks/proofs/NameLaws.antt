@@ -1,11 +1,10 @@
 -- Names and not-bool marks: what the code's tests and calls come to, over plain numbers, tables and states. Assumes nothing.
-use Prim.Native.Nat.{ℕ, zero, suc, _+_, _≤_, _<_}
+use Prim.Native.Nat.{ℕ, _≤_, _<_}
 use mathlib.Core.Path.{_≡_, refl, sym, ap, _∙_}
 use mathlib.Core.Bool.{Bool, true, false, cond, not, _&&_, _||_, and-false}
 use mathlib.Core.List.{List}
 use native.Mathlib.Omega.{arith}
 use lib.Dec.{eqb, leb}
-use lib.ListN.{length}
 use borrow.Author.Tests.{eq-eqb, ne-eqb, le-leb, lt-leb, not-true, not-false}
 use Rattle.limits.specs.Codes as code
 use Rattle.limits.specs.Fields as field
@@ -15,12 +14,12 @@ use Rattle.facts.specs.State.{Node, nodeAt, nodes, nodeOf}
 use Rattle.facts.proofs.Encode.{nodes-get}
 use Rattle.paths.specs.Shape.{Shaped}
 use Rattle.paths.specs.Update.{update}
-use Rattle.paths.specs.Find.{findTo, findIn}
-use Rattle.paths.specs.Make.{Made, ensure, getOrCreate}
+use Rattle.paths.specs.Find.{findIn}
+use Rattle.paths.specs.Make.{ensure, getOrCreate}
 use Rattle.paths.specs.Holds.{Holds, Makes}
-use Rattle.paths.proofs.Kept.{update-key, update-parent, length-update}
+use Rattle.paths.proofs.Lookups.{find-update}
 use Rattle.marks.specs.Grows.{Grows}
-use Rattle.marks.specs.Names.{isRange, dropName, giveName, isNotBool, isSeen, nameAt, nameMade, setTname, markMade, insertNotBool, dropBool, markNotBool}
+use Rattle.marks.specs.Names.{isRange, dropName, giveName, isNotBool, isSeen, nameAt, nameMade, setTname, insertNotBool, dropBool, markNotBool}
 
 -- a number read from a record is its node's
 module _ (t : List ℕ) (u r v : ℕ) (r1 : 1 ≤ r) (ru : r ≤ u) where
@@ -212,20 +211,7 @@ module _ (t : List ℕ) (u N p k : ℕ) (b : Bool) (eb : b ≡ isSeen (nodes t u
         same-state t′ u N (dropName (nodes t u) c) (dropBool (nodes t u) p k) H
         (ap (λ (r : ℕ). dropName (nodes t u) r) e ∙ case-yes Drops (dropName (nodes t u) (findIn (nodes t u) p k)) (nodes t u) (λ i. a i && l i))
 
--- a path is found by keys and parents alone
-pub find-same : (s s′ : List Node) (p k : ℕ) → ((r : ℕ) → nodeOf s′ r .key ≡ nodeOf s r .key) → ((r : ℕ) → nodeOf s′ r .parent ≡ nodeOf s r .parent)
-    → (n : ℕ) → findTo s′ p k n ≡ findTo s p k n
-unfolding findTo
-find-same s s′ p k key parent zero = refl
-find-same s s′ p k key parent (suc n) =
-    λ i. cond (eqb (parent (suc n) i) p && eqb (key (suc n) i) k) (suc n) (find-same s s′ p k key parent n i)
-
-pub find-update : (s : List Node) (r f v p k : ℕ) → findIn (update s r f v) p k ≡ findIn s p k
-unfolding findIn
-find-update s r f v p k =
-    ap (findTo (update s r f v) p k) (length-update s r f v)
-    ∙ find-same s (update s r f v) p k (update-key s r f v) (update-parent s r f v) (length s)
-
+-- a path is found as before
 pub find-drop-name : (s : List Node) (r p k : ℕ) → findIn (dropName s r) p k ≡ findIn s p k
 find-drop-name s r p k = find-update (update s r field.name code.noName) r field.confidence 0 p k ∙ find-update s r field.name code.noName p k
 

@@ -1,10 +1,12 @@
--- Range hints, which are range names, over the state: `clear_range_hint`, `has_range_hint`. Assumes nothing: these are definitions.
+-- Range hints, which are range names, over the state: `clear_range_hint`, `has_range_hint`, `clear_range_hints`. Assumes nothing: these are
+-- definitions.
 use Prim.Native.Nat.{ℕ, max}
 use mathlib.Core.Bool.{Bool, cond, _&&_}
-use mathlib.Core.List.{List}
+use mathlib.Core.List.{List, map}
+use Rattle.limits.specs.Codes as code
 use Rattle.limits.specs.Fields as field
 use Rattle.facts.specs.State.{Node, nodeOf}
-use Rattle.paths.specs.Update.{update}
+use Rattle.paths.specs.Update.{withField, update}
 use Rattle.paths.specs.Find.{findIn}
 use Rattle.marks.specs.Names.{isRange, isSeen, dropName}
 
@@ -22,3 +24,15 @@ clearRangeHint s p k block = cond (isSeen s p k) (clearAt s (findIn s p k) block
 -- `has_range_hint`
 unfoldable pub hasRangeHint : List Node → ℕ → ℕ → Bool
 hasRangeHint s p k = isSeen s p k && isRange (nodeOf s (findIn s p k))
+
+-- a node with its range name dropped
+abbrev pub withoutRange : Node → Node
+withoutRange n = cond (isRange n) (withField field.confidence 0 (withField field.name code.noName n)) n
+
+-- that done at node r
+abbrev pub dropRange : List Node → ℕ → List Node
+dropRange s r = cond (isRange (nodeOf s r)) (dropName s r) s
+
+-- `Info::clear_range_hints` of the root: over all facts (an unseen record of a sound table has no name)
+unfoldable pub clearRangeHints : List Node → List Node
+clearRangeHints s = map withoutRange s

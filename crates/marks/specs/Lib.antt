@@ -1,3 +1,4 @@
 pub mod Grows
 pub mod Names
 pub mod Hints
+pub mod Below

@@ -23,6 +23,10 @@ decoderEnders =
     SLOAD ∷ SSTORE ∷ TLOAD ∷ TSTORE ∷ KECCAK256 ∷ BALANCE ∷ EXTCODESIZE ∷ EXTCODEHASH ∷ EXTCODECOPY ∷ CALL ∷ CALLCODE ∷ DELEGATECALL ∷
     STATICCALL ∷ CREATE ∷ CREATE2 ∷ SELFDESTRUCT ∷ LOG0 ∷ LOG1 ∷ LOG2 ∷ LOG3 ∷ LOG4 ∷ []
 
+-- the opcodes whose first operand is named an address
+unfoldable pub calls : List ℕ
+calls = CALL ∷ CALLCODE ∷ DELEGATECALL ∷ STATICCALL ∷ []
+
 -- question 7: "Has the stack a slot, if op is CALLDATALOAD, ADD, MUL, SHL, LT, GT, AND, ISZERO or MLOAD?"
 unfoldable pub slotNeeders : List ℕ
 slotNeeders = CALLDATALOAD ∷ ADD ∷ MUL ∷ SHL ∷ LT ∷ GT ∷ AND ∷ ISZERO ∷ MLOAD ∷ []

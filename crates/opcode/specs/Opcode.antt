@@ -13,11 +13,20 @@ SUB = 0x03
 abbrev pub DIV : ℕ
 DIV = 0x04
 
+abbrev pub SDIV : ℕ
+SDIV = 0x05
+
 abbrev pub MOD : ℕ
 MOD = 0x06
 
+abbrev pub SMOD : ℕ
+SMOD = 0x07
+
 abbrev pub EXP : ℕ
 EXP = 0x0a
+
+abbrev pub SIGNEXTEND : ℕ
+SIGNEXTEND = 0x0b
 
 abbrev pub LT : ℕ
 LT = 0x10
@@ -34,8 +43,14 @@ ISZERO = 0x15
 abbrev pub AND : ℕ
 AND = 0x16
 
+abbrev pub BYTE : ℕ
+BYTE = 0x1a
+
 abbrev pub SHL : ℕ
 SHL = 0x1b
+
+abbrev pub SHR : ℕ
+SHR = 0x1c
 
 abbrev pub KECCAK256 : ℕ
 KECCAK256 = 0x20
@@ -49,6 +64,9 @@ CALLDATALOAD = 0x35
 abbrev pub CALLDATASIZE : ℕ
 CALLDATASIZE = 0x36
 
+abbrev pub CALLDATACOPY : ℕ
+CALLDATACOPY = 0x37
+
 abbrev pub EXTCODESIZE : ℕ
 EXTCODESIZE = 0x3b
 
@@ -60,6 +78,9 @@ EXTCODEHASH = 0x3f
 
 abbrev pub MLOAD : ℕ
 MLOAD = 0x51
+
+abbrev pub MSTORE8 : ℕ
+MSTORE8 = 0x53
 
 abbrev pub SLOAD : ℕ
 SLOAD = 0x54
@@ -123,6 +144,9 @@ CREATE2 = 0xf5
 
 abbrev pub STATICCALL : ℕ
 STATICCALL = 0xfa
+
+abbrev pub REVERT : ℕ
+REVERT = 0xfd
 
 abbrev pub SELFDESTRUCT : ℕ
 SELFDESTRUCT = 0xff

@@ -15,9 +15,15 @@ pub const SUB: u8 = 0x03;
 
 pub const DIV: u8 = 0x04;
 
+pub const SDIV: u8 = 0x05;
+
 pub const MOD: u8 = 0x06;
 
+pub const SMOD: u8 = 0x07;
+
 pub const EXP: u8 = 0x0a;
+
+pub const SIGNEXTEND: u8 = 0x0b;
 
 pub const LT: u8 = 0x10;
 
@@ -29,7 +35,11 @@ pub const ISZERO: u8 = 0x15;
 
 pub const AND: u8 = 0x16;
 
+pub const BYTE: u8 = 0x1a;
+
 pub const SHL: u8 = 0x1b;
+
+pub const SHR: u8 = 0x1c;
 
 pub const KECCAK256: u8 = 0x20;
 
@@ -39,6 +49,8 @@ pub const CALLDATALOAD: u8 = 0x35;
 
 pub const CALLDATASIZE: u8 = 0x36;
 
+pub const CALLDATACOPY: u8 = 0x37;
+
 pub const EXTCODESIZE: u8 = 0x3b;
 
 pub const EXTCODECOPY: u8 = 0x3c;
@@ -46,6 +58,8 @@ pub const EXTCODECOPY: u8 = 0x3c;
 pub const EXTCODEHASH: u8 = 0x3f;
 
 pub const MLOAD: u8 = 0x51;
+
+pub const MSTORE8: u8 = 0x53;
 
 pub const SLOAD: u8 = 0x54;
 
@@ -82,5 +96,7 @@ pub const DELEGATECALL: u8 = 0xf4;
 pub const CREATE2: u8 = 0xf5;
 
 pub const STATICCALL: u8 = 0xfa;
+
+pub const REVERT: u8 = 0xfd;
 
 pub const SELFDESTRUCT: u8 = 0xff;

@@ -95,6 +95,10 @@ pub missing-some : (s : List Node) (p k r : ℕ) → r ≡ findIn s p k → (r �
 unfolding missing
 missing-some s p k r e n = rw (ne-eqb (findIn s p k) 0 (λ z. n (e ∙ z)))
 
+-- it was not there
+pub find-none : (s : List Node) (p k r : ℕ) → r ≡ findIn s p k → r ≡ 0 → findIn s p k ≡ 0
+find-none s p k r e z = sym e ∙ z
+
 -- it was there
 pub ensured-old : (t : List ℕ) (u N p k r : ℕ) → Shaped t u N → r ≡ findIn (nodes t u) p k → r ≤ u → (r ≡ 0 → ⊥) → Makes u (ensure (nodes t u) p k) t u N r
 unfolding ensure

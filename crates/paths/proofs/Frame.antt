@@ -91,7 +91,8 @@ node-other t r f v s r1 fl s1 n =
       confidence = h 10 (omega arith) i;
     }
 
-at : (s : List Node) (i : ℕ) → getD s i (bare 0 0) ≡ nodeOf s (suc i)
+-- the node with number i + 1 stands at place i
+pub at : (s : List Node) (i : ℕ) → getD s i (bare 0 0) ≡ nodeOf s (suc i)
 unfolding nodeOf
 at s i = let e : i ≡ suc i - 1 = omega arith in ap (λ (j : ℕ). getD s j (bare 0 0)) e
 

@@ -16,7 +16,7 @@ use Rattle.facts.proofs.Laws.{lt-or-ge, length-put, put-same, put-else}
 use Rattle.paths.specs.Shape.{Shaped}
 use Rattle.paths.specs.Holds.{Holds}
 use Rattle.paths.specs.Place.{Place}
-use Rattle.paths.proofs.Spotting.{Absent}
+use Rattle.paths.proofs.Spotting.{Absent, Gap, gap}
 
 -- t′ is t after the stores
 pub record Grown (t : List ℕ) (u p k prev c : ℕ) (t′ : List ℕ) : Type 0 where
@@ -34,7 +34,7 @@ pub record Grown (t : List ℕ) (u p k prev c : ℕ) (t′ : List ℕ) : Type 0 
   pub beyond : (r f : ℕ) → u + 1 < r → f < recordWidth → fld t′ r f ≡ fld t r f
 
 module _ (t : List ℕ) (u p k prev c : ℕ) (t′ : List ℕ) (L : Linked t u) (p1 : 1 ≤ p) (pu : p ≤ u)
-    (A : Absent t u p k) (Q : Place t u p k prev c) (G : Grown t u p k prev c t′) where
+    (A : Absent t u p k) (Q : Gap t u p k prev c) (G : Grown t u p k prev c t′) where
   key-same : (r : ℕ) → 1 ≤ r → r ≤ u → keyOf t′ r ≡ keyOf t r
   key-same r r1 ru = G .same r 0 r1 ru (omega arith) (λ e. omega arith) (λ e. omega arith)
 
@@ -343,7 +343,7 @@ nodes-add t n = ap (nodes t) (add-one n) ∙ ap (λ (m : ℕ). nodes t n ++ node
 -- the new record is the next one, and the state has one node more
 pub inserted : (t : List ℕ) (u N p k prev c : ℕ) (t′ : List ℕ) → Shaped t u N → 1 ≤ p → p ≤ u → u < N
     → Absent t u p k → Place t u p k prev c → Grown t u p k prev c t′ → Holds t′ (u + 1) N (nodes t u ++ bare p k ∷ [])
-inserted t u N p k prev c t′ S p1 pu uN A Q G = record {
+inserted t u N p k prev c t′ S p1 pu uN A P G = let Q = gap t u p k prev c A P in record {
   shaped = record {
     size = G .len ∙ S .size;
     most = omega arith;

@@ -1,8 +1,14 @@
 pub mod Frame
-mod Walk
-mod Spotting
+pub mod Walk
+pub mod Tail
+pub mod Spotting
 mod Growth
-mod Finds
+mod Depths
+pub mod Finds
 mod Seens
 pub mod Kept
 pub mod Reach
+pub mod Alike
+pub mod Lookups
+pub mod Sounds
+pub mod Adds

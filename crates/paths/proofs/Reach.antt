@@ -20,7 +20,7 @@ use Rattle.paths.specs.Update.{withField, update}
 use Rattle.paths.specs.Find.{findTo, findIn}
 use Rattle.paths.specs.Make.{Made, ensure, missing, seenUp, makeSeen, getOrCreate}
 use Rattle.paths.specs.Order.{Ordered, UnderSeen}
-use Rattle.paths.proofs.Kept.{length-paths, length-seen, paths-add, paths-seen, update-parent, update-seen, length-update, now-seen}
+use Rattle.paths.proofs.Kept.{length-paths, length-seen, seen-key, seen-parent, paths-add, paths-seen, update-parent, update-seen, length-update, now-seen}
 
 pub shaped-ordered : (t : List ℕ) (used N : ℕ) → Shaped t used N → Ordered (nodes t used)
 shaped-ordered t used N S = record {
@@ -75,13 +75,13 @@ path-of (m ∷ s) (suc (suc j)) O r1 h =
     ∙ (λ i. getD (pathsFrom ([] ∷ []) s) (n i .parent - 1) [] ++ n i .key ∷ [])
 
 -- r, up to n, is a node with the parent p and the key k
-record Named (s : List Node) (p k n r : ℕ) : Type 0 where
-  low : 1 ≤ r
-  high : r ≤ n
-  parent : nodeOf s r .parent ≡ p
-  key : nodeOf s r .key ≡ k
+pub record Named (s : List Node) (p k n r : ℕ) : Type 0 where
+  pub low : 1 ≤ r
+  pub high : r ≤ n
+  pub parent : nodeOf s r .parent ≡ p
+  pub key : nodeOf s r .key ≡ k
 
-find-named : (s : List Node) (p k n : ℕ) → (findTo s p k n ≡ 0 → ⊥) → Named s p k n (findTo s p k n)
+pub find-named : (s : List Node) (p k n : ℕ) → (findTo s p k n ≡ 0 → ⊥) → Named s p k n (findTo s p k n)
 unfolding findTo
 find-named s p k zero z = absurd (z refl)
 find-named s p k (suc n) z = go (eqb (nodeOf s (suc n) .parent) p) refl (eqb (nodeOf s (suc n) .key) k) refl (find-named s p k n) z
@@ -100,6 +100,11 @@ find-named s p k (suc n) z = go (eqb (nodeOf s (suc n) .parent) p) refl (eqb (no
     }
     go true eb false ec f y = more (f y)
     go false eb c ec f y = more (f y)
+
+-- what is found is such a node
+pub found-named : (s : List Node) (p k : ℕ) → (findIn s p k ≡ 0 → ⊥) → Named s p k (length s) (findIn s p k)
+unfolding findIn
+found-named s p k z = find-named s p k (length s) z
 
 -- the number that is made is that of the path of p with the key k
 pub ensure-path : (s : List Node) (p k : ℕ) → Ordered s → 1 ≤ p → p ≤ length s
@@ -133,7 +138,7 @@ create-path s p k O p1 ps =
 record UnderBut (c : ℕ) (s : List Node) : Type 0 where
   parent : (r : ℕ) → 1 < r → r ≤ length s → nodeOf s r .seen ≡ 1 → (nodeOf s r .parent ≡ c) ⊎ (nodeOf s (nodeOf s r .parent) .seen ≡ 1)
 
-update-other : (s : List Node) (r f v q : ℕ) → 1 ≤ r → 1 ≤ q → (q ≡ r → ⊥) → nodeOf (update s r f v) q ≡ nodeOf s q
+pub update-other : (s : List Node) (r f v q : ℕ) → 1 ≤ r → 1 ≤ q → (q ≡ r → ⊥) → nodeOf (update s r f v) q ≡ nodeOf s q
 unfolding update nodeOf
 update-other s r f v q r1 q1 n = getD-set-other s (r - 1) (q - 1) (withField f v (nodeOf s r)) (bare 0 0) (λ e. n (omega arith))
 
@@ -211,13 +216,41 @@ ensure-range s p k = go (eqb (findTo s p k (length s)) 0) refl
     go false e = let N = find-named s p k (length s) (eqb-false (findTo s p k (length s)) 0 e) in (N .low, N .high)
 
 -- the nodes that were there stay as they are
-add-node : (s : List Node) (n : Node) (q : ℕ) → 1 ≤ q → q ≤ length s → nodeOf (s ++ n ∷ []) q ≡ nodeOf s q
+pub add-node : (s : List Node) (n : Node) (q : ℕ) → 1 ≤ q → q ≤ length s → nodeOf (s ++ n ∷ []) q ≡ nodeOf s q
 unfolding nodeOf
 add-node s n q q1 h = List·getD-append s (n ∷ []) (bare 0 0) (q - 1) (omega arith)
 
-last-node : (s : List Node) (n : Node) → nodeOf (s ++ n ∷ []) (length s + 1) ≡ n
+pub last-node : (s : List Node) (n : Node) → nodeOf (s ++ n ∷ []) (length s + 1) ≡ n
 unfolding nodeOf
 last-node s n = getD-at s n [] (bare 0 0) (length s + 1 - 1) (omega arith)
+
+-- the number that is made is that of a node with the parent p and the key k
+pub ensure-named : (s : List Node) (p k : ℕ) → Named (ensure s p k .state) p k (length (ensure s p k .state)) (ensure s p k .number)
+unfolding ensure
+ensure-named s p k = go (eqb (findIn s p k) 0) refl
+  where
+    go : (b : Bool) → eqb (findIn s p k) 0 ≡ b
+        → (let m = cond {A = Made} b (record { state = s ++ bare p k ∷ []; number = length s + 1 }) (record { state = s; number = findIn s p k }) in
+        Named (m .state) p k (length (m .state)) (m .number))
+    go true e = record {
+      low = omega arith;
+      high = let l = length-append s (bare p k ∷ []) in omega arith;
+      parent = ap (λ (n : Node). n .parent) (last-node s (bare p k));
+      key = ap (λ (n : Node). n .key) (last-node s (bare p k));
+    }
+    go false e = found-named s p k (eqb-false (findIn s p k) 0 e)
+
+pub create-named : (s : List Node) (p k : ℕ) → Named (getOrCreate s p k .state) p k (length (getOrCreate s p k .state)) (getOrCreate s p k .number)
+unfolding getOrCreate
+create-named s p k =
+    let E = ensure s p k in
+    let N = ensure-named s p k in
+    record {
+      low = N .low;
+      high = let h = N .high in let l = length-seen (E .state) (E .number) in omega arith;
+      parent = seen-parent (E .state) (E .number) (E .number) ∙ N .parent;
+      key = seen-key (E .state) (E .number) (E .number) ∙ N .key;
+    }
 
 pub ensure-node : (s : List Node) (p k q : ℕ) → 1 ≤ q → q ≤ length s → nodeOf (ensure s p k .state) q ≡ nodeOf s q
 unfolding ensure

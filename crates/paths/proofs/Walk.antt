@@ -34,12 +34,16 @@ unfolding left
 left-none zero k n = refl
 left-none (suc c) k n = absurd (omega arith)
 
+-- a child has its fields
+pub kid-has : (t : List ℕ) (u p c f : ℕ) → Linked t u → Kid t u p c → f < recordWidth → Has t c f
+kid-has t u p c f L d h = let a = d .above in let b = d .used in let w = L .whole in record { from = omega arith; within = omega arith; one = h }
+
 module _ (t : List ℕ) (u p : ℕ) (L : Linked t u) (p1 : 1 ≤ p) (pu : p ≤ u) where
   pub at-start : (k c : ℕ) → c ≡ childOf t p → At t u p k c
   at-start k c e = record { low = 0; below = omega arith; first = rw e (L .child p p1 pu) }
 
   pub at-has : (k c f : ℕ) → At t u p k c → (c ≡ 0 → ⊥) → f < recordWidth → Has t c f
-  at-has k c f a n h = let d = a .first .kid n in let w = L .whole in record { from = omega arith; within = omega arith; one = h }
+  at-has k c f a n h = kid-has t u p c f L (a .first .kid n) h
 
   pub at-next : (k c c′ : ℕ) → At t u p k c → (c ≡ 0 → ⊥) → (keyOf t c ≡ k → ⊥) → keyOf t c ≤ k → c′ ≡ nextOf t c → At t u p k c′
   at-next k c c′ a n ne le e =

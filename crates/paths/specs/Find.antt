@@ -1,4 +1,5 @@
--- Looking a path up: the path of p with the key k at its end. Assumes nothing: these are definitions.
+-- Looking a path up, as the Rust's `get_mut` does by one key: the path of p with the key k at its end. "Children of one record form a chain through next,
+-- keys strictly rising", so there is one at most. Assumes nothing: these are definitions.
 use Prim.Native.Nat.{ℕ, zero, suc}
 use mathlib.Core.Bool.{cond, _&&_}
 use mathlib.Core.List.{List}
@@ -11,5 +12,6 @@ unfoldable pub findTo : List Node → ℕ → ℕ → ℕ → ℕ
 findTo s p k zero = 0
 findTo s p k (suc n) = cond (eqb (nodeOf s (suc n) .parent) p && eqb (nodeOf s (suc n) .key) k) (suc n) (findTo s p k n)
 
+-- the same among all nodes
 unfoldable pub findIn : List Node → ℕ → ℕ → ℕ
 findIn s p k = findTo s p k (length s)

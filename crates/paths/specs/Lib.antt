@@ -5,3 +5,5 @@ pub mod Make
 pub mod Holds
 pub mod Place
 pub mod Order
+pub mod Depth
+pub mod Adds

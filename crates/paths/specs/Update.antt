@@ -1,4 +1,5 @@
--- A state with one field of one node changed. Assumes nothing: these are definitions.
+-- A state with one field of one node changed, as the Rust stores into the `Info` that `get_mut` or `get_or_create` gives. The fields are "key, parent, child,
+-- next, seen, not-bool, blocked, kind, count, name, confidence"; those up to next never change by it. Assumes nothing: these are definitions.
 use Prim.Native.Nat.{ℕ, _-_}
 use mathlib.Core.Bool.{cond}
 use mathlib.Core.List.{List}

@@ -3,10 +3,12 @@ ghost use mathlib.Core.Path.{_≡_};
 ghost use mathlib.Core.List.{[], _∷_, _++_};
 ghost use Prim.Native.Nat.{_+_, _≤_, _<_};
 ghost use Rattle.limits.specs.Limits.{recordsMax};
+ghost use Rattle.facts.specs.Table.{childOf, nextOf, parentOf};
+ghost use Rattle.facts.specs.Links.{Kid, Linked};
 ghost use Rattle.facts.specs.State.{nodes, bare};
 ghost use Rattle.paths.specs.Shape.{Shaped};
 ghost use Rattle.paths.specs.Find.{findIn};
-ghost use Rattle.paths.specs.Place.{Place};
+ghost use Rattle.paths.specs.Place.{Before, Place};
 ghost use Rattle.paths.specs.Holds.{Holds};
 use facts::field;
 use facts::set_field;
@@ -15,24 +17,37 @@ use limits::fields::KEY;
 use limits::fields::NEXT;
 use limits::fields::PARENT;
 
-// A place in a chain: after prev, 0 for the first, and before next, 0 for the last.
-struct Spot {
-    prev: u32,
-    next: u32,
+// A place in a chain: behind prev, 0 for the first, and at next, 0 for the last.
+pub struct Spot {
+    pub prev: u32,
+    pub next: u32,
 }
 
-// Where a new child of parent with that key goes.
-fn place(table: &[u32], n: u32, used: u32, parent: u32, key: u32) -> Spot
-    requires { ⌜ Shaped (now table) used n ⌝ }
+// The child of parent behind prev, the first one for 0.
+fn behind(table: &[u32], used: u32, parent: u32, prev: u32) -> u32
+    requires { ⌜ Linked (now table) used ⌝ }
     requires { ⌜ (1 ≤ parent) × (parent ≤ used) ⌝ }
-    requires { ⌜ findIn (nodes (now table) used) parent key ≡ 0 ⌝ }
+    requires { ⌜ ((prev ≡ 0 → ⊥) → Kid (now table) used parent prev) ⌝ }
+    ensures { λ c. ⌜ (prev ≡ 0 → c ≡ childOf (now (table .entry)) parent) × ((prev ≡ 0 → ⊥) → c ≡ nextOf (now (table .entry)) prev) ⌝ }
+{
+    if prev == 0 {
+        return field(table, parent, CHILD);
+    }
+    field(table, prev, NEXT)
+}
+
+// Where a key stands or goes among the children of parent, looked for behind one with a lower key, or from the first on for 0.
+pub fn place(table: &[u32], used: u32, parent: u32, key: u32, after: u32) -> Spot
+    requires { ⌜ Linked (now table) used ⌝ }
+    requires { ⌜ (1 ≤ parent) × (parent ≤ used) ⌝ }
+    requires { ⌜ Before (now table) used parent key after ⌝ }
     ensures { λ s. ⌜ Place (now (table .entry)) used parent key (s .prev) (s .next) ⌝ }
 {
-    let mut prev: u32 = 0;
-    let mut c = field(table, parent, CHILD);
+    let mut prev = after;
+    let mut c = behind(table, used, parent, after);
     while c != 0 {
         let k = field(table, c, KEY);
-        if key < k {
+        if key <= k {
             return Spot { prev, next: c };
         }
         prev = c;
@@ -41,17 +56,39 @@ fn place(table: &[u32], n: u32, used: u32, parent: u32, key: u32) -> Spot
     Spot { prev, next: 0 }
 }
 
-// Adds a child with that key to parent, as the next record, and returns its number.
-pub fn insert_child(table: &mut [u32], n: u32, used: u32, parent: u32, key: u32) -> u32
+// The child of parent with that key, which stands at next if it is there, 0 else.
+pub fn find_at(table: &[u32], used: u32, parent: u32, key: u32, prev: u32, next: u32) -> u32
+    requires { ⌜ Linked (now table) used ⌝ }
+    requires { ⌜ (parentOf (now table) 1 ≡ 0) × (1 ≤ parent) ⌝ }
+    requires { ⌜ Place (now table) used parent key prev next ⌝ }
+    ensures { λ r. ⌜ (r ≡ findIn (nodes (now (table .entry)) used) parent key) × (r ≤ used) ⌝ }
+{
+    if next == 0 {
+        return 0;
+    }
+    if field(table, next, KEY) == key {
+        return next;
+    }
+    0
+}
+
+// Adds a child with that key to parent at its place, as the next record, and returns its number.
+pub fn insert_at(
+    table: &mut [u32],
+    n: u32,
+    used: u32,
+    parent: u32,
+    key: u32,
+    prev: u32,
+    next: u32,
+) -> u32
     requires { ⌜ Shaped (now table) used n ⌝ }
     requires { ⌜ (1 ≤ parent) × (parent ≤ used) × (used < n) × (n ≤ recordsMax) ⌝ }
     requires { ⌜ findIn (nodes (now table) used) parent key ≡ 0 ⌝ }
+    requires { ⌜ Place (now table) used parent key prev next ⌝ }
     ensures { λ r. ⌜ r ≡ used + 1 ⌝ }
     ensures { λ _. ⌜ Holds (now (table .exit)) (used + 1) n (nodes (now (table .entry)) used ++ bare parent key ∷ []) ⌝ }
 {
-    let spot = place(table, n, used, parent, key);
-    let prev = spot.prev;
-    let next = spot.next;
     let new = used + 1;
     set_field(table, new, KEY, key);
     set_field(table, new, PARENT, parent);
@@ -62,4 +99,16 @@ pub fn insert_child(table: &mut [u32], n: u32, used: u32, parent: u32, key: u32)
     }
     set_field(table, prev, NEXT, new);
     new
+}
+
+// The same, where the place is still to be found.
+pub fn insert_child(table: &mut [u32], n: u32, used: u32, parent: u32, key: u32) -> u32
+    requires { ⌜ Shaped (now table) used n ⌝ }
+    requires { ⌜ (1 ≤ parent) × (parent ≤ used) × (used < n) × (n ≤ recordsMax) ⌝ }
+    requires { ⌜ findIn (nodes (now table) used) parent key ≡ 0 ⌝ }
+    ensures { λ r. ⌜ r ≡ used + 1 ⌝ }
+    ensures { λ _. ⌜ Holds (now (table .exit)) (used + 1) n (nodes (now (table .entry)) used ++ bare parent key ∷ []) ⌝ }
+{
+    let spot = place(table, used, parent, key, 0);
+    insert_at(table, n, used, parent, key, spot.prev, spot.next)
 }

@@ -1,15 +1,23 @@
 // The paths of a table: looked up, made, and made seen. specs/ has what that does to the state that a table stands for.
+mod depth;
 mod find;
 mod insert;
 mod make;
 mod node;
 mod seen;
 
+pub use depth::depth_of;
 pub use find::find_child;
 pub use find::missing;
+pub use insert::Spot;
+pub use insert::find_at;
+pub use insert::insert_at;
 pub use insert::insert_child;
+pub use insert::place;
+pub use make::ensure_after;
 pub use make::ensure_child;
 pub use make::get_or_create;
+pub use make::get_or_create_after;
 pub use node::store;
 pub use seen::make_seen;
 

@@ -1,14 +1,8 @@
 -- `paths::make::get_or_create` meets its contract. Assumes nothing.
 use borrow.Author.Needs.{needs}
-use Rattle.paths.proofs.Seens.{created}
+use Rattle.paths.proofs.Spotting.{before-none}
 use Rattle.paths.proofs.make.get_or_create.Statement.{statement}
 use Rattle.paths.proofs.make.get_or_create.Tie as tie
 
-returns : tie.Need-returns
-returns c =
-    let seen = c .before .before in
-    let made = seen .before .before .before .before in
-    created _ _ _ _ _ _ _ _ _ (made .ensure-child .ensures) (seen .make-seen .ensures)
-
 pub get-or-create-spec : {M : Type 1} → statement M
-get-or-create-spec = tie.close (tie.spec (λ c κs. search needs) (λ c κs. search needs) (λ c. search needs) returns)
+get-or-create-spec = tie.close (tie.spec (λ c κs. search (before-none, needs)) (λ c. search needs) (λ c. search needs))

@@ -1,0 +1,9 @@
+pub mod Machine
+pub mod Phases
+pub mod Load
+pub mod Sum
+pub mod Length
+pub mod Name
+pub mod Arms
+pub mod Analyze
+pub mod Ready

@@ -1,0 +1,6 @@
+pub mod Choosing
+pub mod Kept
+pub mod Stacks
+pub mod Tests
+pub mod Readings
+pub mod Writings

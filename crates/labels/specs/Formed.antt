@@ -1,0 +1,39 @@
+-- Question 5: "Are all labels and replaced marks well formed, each path of kind 2 or 3 a used record?" Assumes nothing: these are definitions.
+use Prim.Native.Nat.{ℕ, zero, suc, _+_, _*_, _/_}
+use mathlib.Core.Bool.{Bool, true, cond, _&&_, _||_}
+use mathlib.Core.List.{List}
+use lib.Dec.{eqb, leb}
+use lib.ListN.{length, getD}
+use Rattle.limits.specs.Between.{between}
+use Rattle.limits.specs.Layout.{labelOffset, labelPath, labelMasked, labelMask, labelCallData, labelZeroTest, slotWidth, slotLabel, entryWidth, entryReplaced, entryLabel}
+
+-- do the numbers below n all pass?
+unfoldable pub allTo : (ℕ → Bool) → ℕ → Bool
+allTo test zero = true
+allTo test (suc n) = allTo test n && test n
+
+-- are n numbers of s from `at` on all zero?
+abbrev pub zeros : List ℕ → ℕ → ℕ → Bool
+zeros s at n = allTo (λ i. eqb (getD s (at + i) 0) 0) n
+
+-- "masked (0 or 1)"; "an unmasked mask" has "zero in what they don't use"
+abbrev pub isMask : List ℕ → ℕ → Bool
+isMask s at = cond (eqb (getD s (at + labelMasked) 0) 0) (zeros s (at + labelMask) 8) (eqb (getD s (at + labelMasked) 0) 1)
+
+-- is the label at `at` well formed? "Kinds 0 and 1 .. have zero in what they don't use"; "each path of kind 2 or 3 a used record"
+unfoldable pub isLabel : ℕ → List ℕ → ℕ → Bool
+isLabel used s at =
+    cond (leb (getD s at 0) labelCallData) (zeros s (at + labelOffset) 12)
+    (leb (getD s at 0) labelZeroTest && between 1 used (getD s (at + labelPath) 0) && isMask s at)
+
+-- the labels of the stack's slots
+abbrev pub areSlots : ℕ → List ℕ → Bool
+areSlots used s = allTo (λ i. isLabel used s (i * slotWidth + slotLabel)) (length s / slotWidth)
+
+-- the entry at `at`, with its "replaced mark (0 or 1)"
+abbrev pub isEntry : ℕ → List ℕ → ℕ → Bool
+isEntry used s at = leb (getD s (at + entryReplaced) 0) 1 && isLabel used s (at + entryLabel)
+
+-- the entries of the memory
+abbrev pub areEntries : ℕ → List ℕ → Bool
+areEntries used s = allTo (λ i. isEntry used s (i * entryWidth)) (length s / entryWidth)

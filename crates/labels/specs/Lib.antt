@@ -1,0 +1,5 @@
+pub mod Label
+pub mod Formed
+pub mod Step
+pub mod Operands
+pub mod Stack

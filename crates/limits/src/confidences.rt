@@ -1,0 +1,18 @@
+// "Confidences: BYTE 4; AND and double ISZERO 5; range 6; SDIV, SMOD 8; bytes 10; MSTORE8 12; the rest 20."
+pub const BY_BYTE: u32 = 4;
+
+// AND and double ISZERO.
+pub const BY_CHECK: u32 = 5;
+
+pub const BY_RANGE: u32 = 6;
+
+// SDIV and SMOD.
+pub const BY_SIGN: u32 = 8;
+
+// A name that is bytes.
+pub const BY_COPY: u32 = 10;
+
+pub const BY_STORE: u32 = 12;
+
+// The rest.
+pub const BY_USE: u32 = 20;

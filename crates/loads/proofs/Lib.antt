@@ -1,0 +1,4 @@
+pub mod Following
+pub mod Loaded
+pub mod Plain
+pub mod Loading

@@ -1,0 +1,4 @@
+pub mod Arms
+pub mod Clearing
+pub mod Ranging
+pub mod Shifts

@@ -1,0 +1,63 @@
+-- Each operation of this crate adds the stated path and no other, and moves none. Assumes nothing.
+use Prim.Native.Nat.{ℕ, _-_, _≤_}
+use mathlib.Core.Path.{_≡_, refl, ap, _∙_}
+use mathlib.Core.Bool.{cond}
+use mathlib.Core.List.{List, [], _∷_, _++_}
+use native.Mathlib.Omega.{arith}
+use lib.Dec.{eqb}
+use lib.ListN.{length, getD, take}
+use borrow.Author.Tests.{ne-eqb}
+use Rattle.facts.specs.State.{Node, paths}
+use Rattle.paths.specs.Find.{findIn}
+use Rattle.paths.specs.Make.{ensure, missing, makeSeen, getOrCreate}
+use Rattle.paths.specs.Order.{Ordered}
+use Rattle.paths.specs.Adds.{SamePaths, AddsPath}
+use Rattle.paths.proofs.Kept.{paths-ensure}
+use Rattle.paths.proofs.Reach.{length-ensure, ensure-path, ensure-range}
+use Rattle.paths.proofs.Alike.{Alike, alike-refl, alike-seen, alike-create, alike-find, alike-paths}
+use Rattle.paths.proofs.Lookups.{find-ensure, find-ensured, none-under-last}
+
+pub alike-same : (s s′ : List Node) → Alike s s′ → SamePaths s s′
+alike-same s s′ A = record { size = A .size; kept = alike-paths s s′ A; find = alike-find s s′ A }
+
+pub alike-adds : (s : List Node) (p k : ℕ) (s′ : List Node) → Alike (ensure s p k .state) s′ → AddsPath s p k s′
+alike-adds s p k s′ A = record {
+  size = A .size ∙ length-ensure s p k;
+  kept = ap (take (length s)) (alike-paths (ensure s p k .state) s′ A) ∙ paths-ensure s p k;
+  find = alike-find (ensure s p k .state) s′ A p k ∙ find-ensured s p k;
+  find-else = λ p′ k′ n. alike-find (ensure s p k .state) s′ A p′ k′ ∙ find-ensure s p k p′ k′ n;
+}
+
+-- what the number stands for: the path of p with the key k at its end
+pub alike-path : (s : List Node) (p k : ℕ) (s′ : List Node) → Ordered s → 1 ≤ p → p ≤ length s → Alike (ensure s p k .state) s′
+    → getD (paths s′) (findIn s′ p k - 1) [] ≡ getD (paths s) (p - 1) [] ++ k ∷ []
+alike-path s p k s′ O p1 ps A =
+    (λ i. getD (alike-paths (ensure s p k .state) s′ A i) (alike-adds s p k s′ A .find i - 1) []) ∙ ensure-path s p k O p1 ps
+
+pub adds-ensure : (s : List Node) (p k : ℕ) → AddsPath s p k (ensure s p k .state)
+adds-ensure s p k = alike-adds s p k (ensure s p k .state) (alike-refl (ensure s p k .state))
+
+pub adds-create : (s : List Node) (p k : ℕ) → AddsPath s p k (getOrCreate s p k .state)
+adds-create s p k = alike-adds s p k (getOrCreate s p k .state) (alike-create s p k)
+
+pub same-seen : (s : List Node) (r : ℕ) → SamePaths s (makeSeen s r)
+same-seen s r = alike-same s (makeSeen s r) (alike-seen s r)
+
+-- what a second operation then adds: nothing for the same path, and as much as before for another one
+module _ (s : List Node) (p k : ℕ) (s′ : List Node) (A : AddsPath s p k s′) where
+  pub adds-missing : missing s′ p k ≡ 0
+  unfolding missing
+  adds-missing = rw (ne-eqb (findIn s′ p k) 0 (λ z. let e = A .find in let h = ensure-range s p k .0 in omega arith)) refl
+
+  pub adds-missing-else : (p′ k′ : ℕ) → (p ≡ p′ → k ≡ k′ → ⊥) → missing s′ p′ k′ ≡ missing s p′ k′
+  unfolding missing
+  adds-missing-else p′ k′ n = ap (λ (r : ℕ). cond (eqb r 0) 1 0) (A .find-else p′ k′ n)
+
+pub same-missing : (s s′ : List Node) → SamePaths s s′ → (p k : ℕ) → missing s′ p k ≡ missing s p k
+unfolding missing
+same-missing s s′ A p k = ap (λ (r : ℕ). cond (eqb r 0) 1 0) (A .find p k)
+
+-- and one for a path below one that has just been made
+pub new-missing : (s : List Node) (p k : ℕ) → Ordered s → length s ≤ p → missing s p k ≡ 1
+unfolding missing
+new-missing s p k O h = rw (none-under-last s p k O h) refl

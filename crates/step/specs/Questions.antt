@@ -1,0 +1,69 @@
+-- Questions 3 to 8, in document 01's words. Assumes nothing: these are definitions.
+use Prim.Native.Nat.{ℕ, _+_, _/_, _%_, _^_}
+use mathlib.Core.Bool.{Bool, cond, not, _&&_, _||_}
+use mathlib.Core.List.{List}
+use lib.Dec.{eqb, leb, ltb}
+use lib.ListN.{length, getD}
+use Rattle.limits.specs.Limits.{codeMax, slotsMax, entriesMax}
+use Rattle.limits.specs.Layout.{slotWidth, slotLabel, entryWidth, stepWidth, stepOp, stepFirst, stepSecond, stepPick, stepLoadFlag, stepLoad}
+use Rattle.word.specs.Numbers.{wordAt}
+use Rattle.opcode.specs.Opcode.{LT, GT, CALLDATACOPY}
+use Rattle.opcode.specs.Lists.{listed, slotNeeders}
+use Rattle.labels.specs.Formed.{isLabel, areSlots, areEntries}
+use Rattle.labels.specs.Step.{stepOf}
+use Rattle.analyze.specs.Analyze.{analyze}
+use Rattle.analyze.specs.Ready.{lent}
+
+-- 3. "Is the code at most 65,536 bytes?"
+abbrev pub codeFits : List ℕ → Bool
+codeFits bytes = leb (length bytes) codeMax
+
+-- whole slots or entries of that width, at most so many
+abbrev pub areWhole : List ℕ → ℕ → ℕ → Bool
+areWhole s width most = eqb (length s % width) 0 && leb (length s / width) most
+
+-- 4. "Are stack and memory whole slots and entries, at most 1,024 each, and the step 59 numbers?"
+unfoldable pub sizesFit : List ℕ → List ℕ → List ℕ → Bool
+sizesFit stack memory x = areWhole stack slotWidth slotsMax && areWhole memory entryWidth entriesMax && eqb (length x) stepWidth
+
+-- 5. "Are all labels and replaced marks well formed, each path of kind 2 or 3 a used record?"
+unfoldable pub labelsFit : ℕ → List ℕ → List ℕ → List ℕ → Bool
+labelsFit used stack memory x =
+    areSlots used stack && areEntries used memory
+    && isLabel used x (stepFirst + slotLabel) && isLabel used x (stepSecond + slotLabel) && isLabel used x stepLoad
+
+-- "the load flag 0 or 1 with a load label of nonzero kind exactly at 1"
+abbrev pub loadFits : ℕ → ℕ → Bool
+loadFits flag kind = cond (eqb flag 0) (eqb kind 0) (eqb flag 1 && not (eqb kind 0))
+
+-- "for CALLDATACOPY the second word below 2^32"
+abbrev pub copyFits : ℕ → ℕ → Bool
+copyFits op word = not (eqb op CALLDATACOPY) || ltb word (2 ^ 32)
+
+-- 6. "Is op at most 255, pick at most the entry count, .."
+unfoldable pub fieldsFit : List ℕ → List ℕ → Bool
+fieldsFit memory x =
+    leb (getD x stepOp 0) 255 && leb (getD x stepPick 0) (length memory / entryWidth)
+    && loadFits (getD x stepLoadFlag 0) (getD x stepLoad 0) && copyFits (getD x stepOp 0) (wordAt x stepSecond)
+
+-- 7. "Has the stack a slot, if op is CALLDATALOAD, ADD, MUL, SHL, LT, GT, AND, ISZERO or MLOAD?"
+unfoldable pub slotThere : List ℕ → ℕ → Bool
+slotThere stack op = not (listed op slotNeeders) || leb slotWidth (length stack)
+
+-- 8. "Are enough records free for those the step adds?"
+unfoldable pub roomThere : ℕ → List ℕ → ℕ → Bool → List ℕ → List ℕ → List ℕ → List ℕ → Bool
+roomThere N table used active bytes stack memory x = leb (length (analyze (lent table used stack memory) active bytes (stepOf x) .facts)) N
+
+-- "the first "no" gives its number"; 0 where there is none
+unfoldable pub refusal : ℕ → List ℕ → ℕ → Bool → List ℕ → List ℕ → List ℕ → List ℕ → ℕ
+refusal N table used active bytes stack memory x =
+    cond (codeFits bytes)
+    (cond (sizesFit stack memory x)
+    (cond (labelsFit used stack memory x)
+    (cond (fieldsFit memory x)
+    (cond (slotThere stack (getD x stepOp 0))
+    (cond (roomThere N table used active bytes stack memory x) 0 8) 7) 6) 5) 4) 3
+
+-- LT or GT
+abbrev pub comparing : ℕ → Bool
+comparing op = eqb op LT || eqb op GT
