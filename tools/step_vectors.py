@@ -70,6 +70,12 @@ def step_numbers(op, a=0, b=0, pc=0, pick=0, flag=None, load=NONE):
     return [op, pc] + either(a) + either(b) + [pick, int(load[0] != 0) if flag is None else flag] + load
 
 
+def rows(letter, width, numbers):
+    """a line for each record, slot or entry; of more than 64 those that are zero are left out"""
+    parts = [numbers[i:i + width] for i in range(0, len(numbers), width)]
+    return [f'{letter} {i}:' + ''.join(f' {x}' for x in part) for i, part in enumerate(parts, 1) if len(numbers) // width <= 64 or any(part)]
+
+
 class Trace:
     """a list of steps on one table, and the lines that they give"""
 
@@ -107,10 +113,9 @@ class Trace:
             self.table[at] = value
         self.steps.append((replaced, self.head, self.waiting, code, stack, memory, numbers))
         number, head, after, stack_after, memory_after = model.step(self.head, self.table, code, stack, memory, numbers)
-        line = [number, *head]
-        for letter, old, new in (('s', stack, stack_after), ('m', memory, memory_after), ('t', self.table, after)):
-            line += [f'{letter}{i}:{y}' for i, (x, y) in enumerate(zip(old, new)) if x != y]
-        self.lines.append(''.join(f' {x}' for x in line))
+        end = min(head[0] * WIDTH, len(after))
+        self.lines.append(f'step {len(self.steps)}: answer {number} used {head[0]} active {head[1]} beyond {sum(x != 0 for x in after[end:])}')
+        self.lines += rows('r', WIDTH, after[:end]) + rows('s', 21, stack_after) + rows('m', 15, memory_after)
         self.head, self.table, self.waiting, self.next_head = head, list(after), {}, None
         return self
 

@@ -1,6 +1,6 @@
 -- Lengths: MUL and SHL of one, and its comparisons. Assumes nothing: these are definitions.
 use Prim.Native.Nat.{ℕ, _+_, _*_, _/_, _%_}
-use mathlib.Core.Bool.{Bool, true, false, cond, not, _&&_, _||_}
+use mathlib.Core.Bool.{Bool, true, false, cond, _&&_, _||_}
 use mathlib.Core.List.{List}
 use lib.Dec.{eqb}
 use Rattle.limits.specs.Between.{between}
@@ -10,7 +10,6 @@ use Rattle.limits.specs.Limits.{wordBytes}
 use Rattle.word.specs.Value.{valueOf}
 use Rattle.word.specs.Arithmetic.{powerOf}
 use Rattle.word.specs.Multiplier.{multiplierOf}
-use Rattle.word.specs.declared.U256.{U256}
 use Rattle.word.specs.declared.Multiplier.{Multiplier}
 use Rattle.word.specs.declared.Multiplier.the-variants.{One, Two, Array, Other}
 use Rattle.opcode.specs.Opcode.{LT}
@@ -23,7 +22,6 @@ use Rattle.marks.specs.Hints.{hasRangeHint}
 use Rattle.kinds.specs.Kinds.{setArray}
 use Rattle.labels.specs.declared.Val.{Val}
 use Rattle.labels.specs.declared.Label.{Label}
-use Rattle.labels.specs.declared.Element.{Element}
 use Rattle.labels.specs.declared.Step.{Step}
 use Rattle.labels.specs.declared.Choice.{Choice}
 use Rattle.labels.specs.declared.Choice.the-variants.{Chosen, Neither}
@@ -31,7 +29,7 @@ use Rattle.labels.specs.Operands.{onArg, isAny, isLength, isPlainLength, choose
 use Rattle.labels.specs.Stack.{withTopWord, stackOnes, memoryOnes}
 use Rattle.analyze.specs.Machine.{Machine, withFacts, withStack, marked, markedNamed}
 
--- the length marked, "then the other operand's"
+-- the length marked, then the other operand's argument
 unfoldable pub lengthMarked : List Node → ℕ → Label → List Node
 lengthMarked s path other = onArg other (λ w. marked (markNotBool s path 0) w) (markNotBool s path 0)
 
@@ -39,7 +37,7 @@ lengthMarked s path other = onArg other (λ w. marked (markNotBool s path 0) w) 
 unfoldable pub pathNamed : List Node → ℕ → ℕ → ℕ → List Node
 pathNamed s path name confidence = setTname s (nodeOf s path .parent) (nodeOf s path .key) name confidence
 
--- an array mark: "every slot and entry of kind 2, offset 0, that path, added 0, masked or not, gets the word 1; then the top gets the multiplier"
+-- an array mark (reading: "every slot and entry of kind 2, offset 0, that path, added 0, masked or not, gets the word 1; then the top gets the multiplier")
 abbrev pub arrayMarked : Machine → ℕ → ℕ → Machine
 arrayMarked m path count = record {
   facts = setArray (m .facts) path count;
@@ -61,7 +59,7 @@ multiply m path other factor =
     (withFacts m (lengthMarked (m .facts) path other))
     (multiplied (withFacts m (lengthMarked (m .facts) path other)) path (multiplierOf factor))
 
--- "the general arm of LT, GT and MUL takes the first labelled operand only and leaves it alone under a range name"
+-- reading: "the general arm of LT, GT and MUL takes the first labelled operand only and leaves it alone under a range name"
 abbrev pub unlessRange : List Node → Val → List Node
 unlessRange s v = cond (hasRangeHint s (v .path) (v .offset)) s (marked s v)
 
@@ -92,7 +90,7 @@ bytesNamed s v n = cond (eqb n 0) (marked s v) (markedNamed s v (code.fixedBytes
 unfoldable pub shiftNamed : List Node → List ℕ → ℕ → Val → ℕ → List Node
 shiftNamed s bytes pc v shift = bytesNamed s v (bytesShift bytes pc shift)
 
--- SHL: "path root and active is an arm of its own, for any offset and added value; otherwise only offset 0 and added 0 (multiply)"
+-- SHL (reading: "path root and active is an arm of its own, for any offset and added value; otherwise only offset 0 and added 0 (multiply)")
 abbrev pub shlOf : Machine → Bool → List ℕ → Step → Val → Machine
 shlOf m active bytes x v =
     cond (eqb (v .path) 1 && active)
@@ -102,11 +100,11 @@ shlOf m active bytes x v =
 unfoldable pub shl : Machine → Bool → List ℕ → Step → Machine
 shl m active bytes x = onArg (x .second .label) (λ v. shlOf m active bytes x v) m
 
--- `0 < arr.len || arr.len > 0`, and 31 "= string for storage"
+-- `0 < arr.len || arr.len > 0`, and 31 (`mod.rs`: "= string for storage")
 unfoldable pub comparesLength : ℕ → Bool
 comparesLength bound = eqb bound 0 || eqb bound 31
 
--- "The length arm of LT (second operand) and GT (first operand) .. comes before the general arm": for that operand's label, beside the general arm's choice
+-- reading: "The length arm of LT (second operand) and GT (first operand) .. comes before the general arm"; for that operand's label, beside the general arm's choice
 unfoldable pub comparedFacts : List Node → Label → Choice → List Node
 comparedFacts s l general = onArg l (λ v. cond (isPlainLength v) (markNotBool s (v .path) 0) (markFirst s general)) (markFirst s general)
 

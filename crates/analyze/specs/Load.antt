@@ -1,5 +1,5 @@
 -- CALLDATALOAD and CALLDATACOPY: the Rust's first two arms. Assumes nothing: these are definitions.
-use Prim.Native.Nat.{ℕ, _+_, _-_, _*_, _/_, _%_}
+use Prim.Native.Nat.{ℕ, _-_, _*_, _/_, _%_}
 use mathlib.Core.Bool.{Bool, cond, _&&_}
 use mathlib.Core.List.{List}
 use lib.Dec.{eqb, leb}
@@ -8,7 +8,6 @@ use Rattle.limits.specs.Codes as code
 use Rattle.limits.specs.Confidences.{byCopy}
 use Rattle.limits.specs.Limits.{wordBytes, selectorBytes, kindArray, loadMax}
 use Rattle.word.specs.Value.{valueOf}
-use Rattle.word.specs.declared.U256.{U256}
 use Rattle.opcode.specs.Opcode.{CALLDATALOAD}
 use Rattle.facts.specs.State.{Node, nodeOf}
 use Rattle.paths.specs.Make.{Made, ensure, getOrCreate}
@@ -30,7 +29,7 @@ plainArg offset path = Arg (record { offset = offset; path = path; «add_val» =
 unfoldable pub isWholeWord : ℕ → Bool
 isWholeWord added = leb selectorBytes added && eqb ((added - selectorBytes) % wordBytes) 0
 
--- what is taken off for arrays on the path: 32 for each, "only if added isn't 4, and nothing at all is taken if the sum is larger than added - 4"
+-- what is taken off for arrays on the path: 32 for each, unless 4 is added or what is added behind the selector is less than their sum
 unfoldable pub arraysOff : ℕ → ℕ → ℕ
 arraysOff arrays added = cond (eqb added selectorBytes) 0 (cond (leb (wordBytes * arrays) (added - selectorBytes)) (wordBytes * arrays) 0)
 
@@ -65,7 +64,7 @@ toStack x = eqb (x .op) CALLDATALOAD
 unfoldable pub loadedFacts : List Node → Val → List Node
 loadedFacts s v = cond (isWholeWord (v .«add_val»)) (followed s v) s
 
--- a labelled CALLDATACOPY: "the dynamic mark is set with pick 0 too; bytes and the label need a pick"
+-- a labelled CALLDATACOPY (reading: "the dynamic mark is set with pick 0 too; bytes and the label need a pick")
 unfoldable pub copiedFacts : List Node → ℕ → Val → List Node
 copiedFacts s pick v =
     cond (isWholeWord (v .«add_val»))

@@ -17,7 +17,6 @@ use Rattle.labels.specs.declared.Label.{Label}
 use Rattle.labels.specs.declared.Label.the-variants.{Arg, IsZeroResult}
 use Rattle.labels.specs.declared.Mask.{Mask}
 use Rattle.labels.specs.declared.Mask.the-variants.{Unmasked, Masked}
-use Rattle.labels.specs.declared.Element.{Element}
 use Rattle.labels.specs.declared.Step.{Step}
 use Rattle.labels.specs.declared.Choice.{Choice}
 use Rattle.labels.specs.declared.Choice.the-variants.{Chosen, Neither}
@@ -30,7 +29,7 @@ use Rattle.analyze.specs.Length.{isPlace}
 unfoldable pub call : List Node → Step → List Node
 call s x = onArg (x .first .label) (λ v. markedNamed s v code.address byUse) s
 
--- "MSTORE8 names its first operand": uint8
+-- MSTORE8: its first operand is uint8
 unfoldable pub mstore8 : List Node → Step → List Node
 mstore8 s x = onArg (x .first .label) (λ v. markedNamed s v (code.uint + 8) byStore) s
 
@@ -44,14 +43,14 @@ widthName width =
 abbrev pub shrNamed : List Node → Val → ℕ → List Node
 shrNamed s v name = cond (eqb name code.noName) s (named s v name byUse)
 
--- SHR, while the decoder is active: "Vyper validates narrow ABI scalars by rejecting non-zero high bits"
+-- SHR, while the decoder is active (`mod.rs`: "Vyper validates narrow ABI scalars by rejecting non-zero high bits")
 unfoldable pub shr : List Node → Bool → List ℕ → Step → List Node
 shr s active bytes x =
     onArg (x .second .label)
     (λ v. cond (active && isPlace (guardFailurePc bytes (x .pc) true)) (shrNamed s v (widthName (valueOf (x .first .word)))) s)
     s
 
--- "SDIV and SMOD touch the first labelled operand only": int256
+-- reading: "SDIV and SMOD touch the first labelled operand only"; int256
 abbrev pub signedFirst : List Node → Choice → List Node
 signedFirst s Neither = s
 signedFirst s (Chosen v own other) = markedNamed s v (code.int + 256) bySign
@@ -63,7 +62,7 @@ signed s x = signedFirst s (choose isAny (x .first) (x .second))
 abbrev pub withMask : Val → U256 → Label
 withMask v mask = Arg (record { offset = v .offset; path = v .path; «add_val» = v .«add_val»; «and_mask» = Masked mask })
 
--- "AND takes the first operand that is an unmasked argument; a mask that gives no type leaves the mark and puts no label"
+-- reading: "AND takes the first operand that is an unmasked argument; a mask that gives no type leaves the mark and puts no label"
 abbrev pub andFirst : List Node → Choice → List Node
 andFirst s Neither = s
 andFirst s (Chosen v own other) =
@@ -96,7 +95,7 @@ eqBoth s v w = cond (isPlain v) (eqMasked s v w (w .«and_mask»)) (cond (isPlai
 unfoldable pub eq : List Node → Step → List Node
 eq s x = onArg (x .first .label) (λ v. onArg (x .second .label) (λ w. eqBoth s v w) s) s
 
--- ISZERO of a zero test is a double ISZERO: bool, unless it "is a check for 0 in DIV"
+-- ISZERO of a zero test is a double ISZERO: bool, unless it checks a divisor for 0 (`mod.rs`: "Detect check for 0 in DIV, it's not bool in that case")
 unfoldable pub isZeroFacts : List Node → List ℕ → Step → List Node
 isZeroFacts s bytes x =
     onZeroTest (x .first .label) (λ v. cond (isDivisionCheck bytes (x .pc)) s (named s v code.bool byCheck)) s
@@ -119,7 +118,7 @@ signExtend s x =
 unfoldable pub byte : List Node → Step → List Node
 byte s x = onArg (x .second .label) (λ v. named s v (code.fixedBytes + 32) byByte) s
 
--- "MLOAD copies a kind 2 load label only"
+-- reading: "MLOAD copies a kind 2 load label only"
 unfoldable pub mloadStack : List ℕ → Step → List ℕ
 mloadStack stack x = onArg (x .load) (λ v. withTopLabel stack (Arg v)) stack
 

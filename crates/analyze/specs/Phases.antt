@@ -1,6 +1,6 @@
 -- The phases before the arms: "hints cleared, range rule, decoder phase". Assumes nothing: these are definitions.
 use Prim.Native.Nat.{ℕ, _+_}
-use mathlib.Core.Bool.{Bool, true, false, cond, not, _&&_, _||_}
+use mathlib.Core.Bool.{Bool, false, cond, not, _&&_, _||_}
 use mathlib.Core.List.{List}
 use lib.Dec.{eqb}
 use Rattle.limits.specs.Codes as code
@@ -16,7 +16,6 @@ use Rattle.marks.specs.Names.{insertNotBool}
 use Rattle.marks.specs.Hints.{clearRangeHint, clearRangeHints}
 use Rattle.labels.specs.declared.Val.{Val}
 use Rattle.labels.specs.declared.Label.{Label}
-use Rattle.labels.specs.declared.Element.{Element}
 use Rattle.labels.specs.declared.Step.{Step}
 use Rattle.analyze.specs.declared.Comparison.{Comparison}
 use Rattle.analyze.specs.declared.Comparison.the-variants.{Of, Nothing}
@@ -27,7 +26,7 @@ use Rattle.analyze.specs.Machine.{named}
 abbrev pub clearOperand : List Node → Label → ℕ → List Node
 clearOperand s l block = onArg l (λ v. clearRangeHint s (v .path) (v .offset) block) s
 
--- "EQ of two argument labels blocks both": 1 where a word is compared with another argument's
+-- reading: "EQ of two argument labels blocks both"; 1 where EQ's operands are both arguments, be it one and the same
 abbrev pub comparesWords : Step → ℕ
 comparesWords x = cond (eqb (x .op) EQ && isArg (x .first .label) && isArg (x .second .label)) 1 0
 
@@ -43,7 +42,7 @@ unfoldable pub clearHints : List Node → Bool → Step → List Node
 clearHints s active x =
     cond (eqb (x .op) REVERT && active) (clearRangeHints s) (clearOperands s x)
 
--- does the comparison of v with that bound name a range? "added 0, unmasked, offset not 0 unless the path is the root";
+-- does the comparison of v with that bound name a range (reading: "added 0, unmasked, offset not 0 unless the path is the root")?
 -- lessThan: it is value < bound
 unfoldable pub ranges : List ℕ → ℕ → Val → U256 → Bool → Bool
 ranges bytes pc v bound lessThan =
@@ -55,7 +54,7 @@ ranges bytes pc v bound lessThan =
 abbrev pub rangeNamed : List Node → Val → List Node
 rangeNamed s v = insertNotBool (named s v (code.uint + 8) byRange) (v .path) (v .offset)
 
--- the comparison by its orientation: value < bound is LT with the argument first or GT with it second; "the other operand of label kind 0"
+-- the comparison by its orientation: value < bound is LT with the argument first or GT with it second (reading: "the other operand of label kind 0")
 unfoldable pub comparisonOf : Step → Comparison
 comparisonOf x =
     cond (isUnlabelled (x .second .label)) (onArg (x .first .label) (λ v. Of v (x .second .word) (eqb (x .op) LT)) Nothing)

@@ -1,17 +1,13 @@
 -- What the code of a step asks for and leaves: a table that holds facts, labels whose paths are used records, and room. Assumes nothing: these are definitions.
-use Prim.Native.Nat.{ℕ, _*_, _≤_}
+use Prim.Native.Nat.{ℕ, _≤_}
 use mathlib.Core.Path.{_≡_}
-use mathlib.Core.Bool.{Bool}
 use mathlib.Core.List.{List}
-use lib.ListN.{length}
-use Rattle.limits.specs.Layout.{slotWidth, entryWidth}
 use Rattle.limits.specs.Limits.{recordsMax}
-use Rattle.facts.specs.State.{Node, nodes}
+use Rattle.facts.specs.State.{nodes}
 use Rattle.paths.specs.Shape.{Shaped}
 use Rattle.labels.specs.declared.Val.{Val}
 use Rattle.labels.specs.declared.Label.{Label}
 use Rattle.labels.specs.declared.Label.the-variants.{Unlabelled, CallData, Arg, IsZeroResult}
-use Rattle.labels.specs.declared.Element.{Element}
 use Rattle.labels.specs.declared.Step.{Step}
 use Rattle.labels.specs.declared.Choice.{Choice}
 use Rattle.labels.specs.declared.Choice.the-variants.{Chosen, Neither}

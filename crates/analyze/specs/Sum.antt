@@ -14,7 +14,6 @@ use Rattle.paths.specs.Depth.{depthOf}
 use Rattle.labels.specs.declared.Val.{Val}
 use Rattle.labels.specs.declared.Label.{Label}
 use Rattle.labels.specs.declared.Label.the-variants.{Arg}
-use Rattle.labels.specs.declared.Element.{Element}
 use Rattle.labels.specs.declared.Step.{Step}
 use Rattle.labels.specs.declared.Choice.{Choice}
 use Rattle.labels.specs.declared.Choice.the-variants.{Chosen, Neither}
@@ -26,7 +25,7 @@ use Rattle.analyze.specs.Machine.{Machine, withStack, marked}
 abbrev pub withAdded : Val → ℕ → Label
 withAdded v added = Arg (record { offset = v .offset; path = v .path; «add_val» = added; «and_mask» = v .«and_mask» })
 
--- the top labelled with a sum that was kept; "A sum that isn't kept leaves the top as it was"
+-- the top labelled with a sum that was kept (reading: "A sum that isn't kept leaves the top as it was")
 abbrev pub keptTop : List ℕ → Val → Kept → List ℕ
 keptTop stack v TooLarge = stack
 keptTop stack v (Number sum) = withTopLabel stack (withAdded v sum)

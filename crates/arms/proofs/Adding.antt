@@ -26,15 +26,11 @@ use Rattle.labels.specs.declared.Choice.{Choice}
 use Rattle.labels.specs.declared.Choice.the-variants.{Chosen, Neither}
 use Rattle.labels.specs.Operands.{isAny, isLength, choose}
 use Rattle.labels.specs.Stack.{withTopLabel, withTopWord}
-use Rattle.labels.proofs.Choosing.{on-arg, on-none}
+use Rattle.labels.proofs.Choosing.{NoArg, on-arg, on-none}
 use Rattle.args.proofs.Flow.{holds-size, ready-next, reaches-next, after, marked-grows, choice-reaches}
 use Rattle.analyze.specs.Machine.{marked}
 use Rattle.analyze.specs.Sum.{withAdded, keptTop, winner, bothStack, isLessOne, constantAdded, oneFacts, oneStack, addFacts, addStack}
 use Rattle.analyze.specs.Ready.{Ready, Reaches, LabelReaches, ChoiceReaches}
-
--- no such label
-abbrev pub NoArg : Label → Type 0
-NoArg l = (v : Val) → l ≡ Arg v → ⊥
 
 -- a sum that was kept
 pub sum-put : (s s′ : List ℕ) (v : Val) (k : Kept) (added : ℕ) (l : Label) → k ≡ Number added → l ≡ withAdded v added → s′ ≡ withTopLabel s l

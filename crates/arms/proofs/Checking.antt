@@ -21,11 +21,10 @@ use Rattle.labels.specs.declared.Choice.{Choice}
 use Rattle.labels.specs.declared.Choice.the-variants.{Chosen, Neither}
 use Rattle.labels.specs.Operands.{onArg, onZeroTest, isPlain, choose}
 use Rattle.labels.specs.Stack.{withTopLabel}
-use Rattle.labels.proofs.Choosing.{on-arg, on-none}
+use Rattle.labels.proofs.Choosing.{NoArg, on-arg, on-none}
 use Rattle.analyze.specs.Machine.{marked, named, markedNamed}
 use Rattle.analyze.specs.Name.{withMask, andFirst, andTop, andFacts, andStack, isZeroFacts, isZeroStack, mloadStack}
 use Rattle.analyze.specs.Ready.{Reaches, LabelReaches}
-use Rattle.arms.proofs.Adding.{NoArg}
 
 -- AND: neither, a mask of no type, or a name
 module _ (x : Step) (k : Choice) (e : k ≡ choose isPlain (x .first) (x .second)) where

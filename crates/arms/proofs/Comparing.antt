@@ -21,11 +21,10 @@ use Rattle.labels.specs.declared.Step.{Step}
 use Rattle.labels.specs.declared.Choice.{Choice}
 use Rattle.labels.specs.Operands.{isAny, isPlainLength, choose}
 use Rattle.labels.specs.Stack.{withTopWord}
-use Rattle.labels.proofs.Choosing.{on-arg, on-none}
+use Rattle.labels.proofs.Choosing.{NoArg, on-arg, on-none}
 use Rattle.args.proofs.Flow.{room, fits, arg-reaches}
 use Rattle.analyze.specs.Length.{markFirst, comparesLength, comparedFacts, comparedStack, compareFacts, compareStack}
 use Rattle.analyze.specs.Ready.{Ready, LabelReaches}
-use Rattle.arms.proofs.Adding.{NoArg}
 
 pub compares-is : (bound : ℕ) (a b : Bool) → a ≡ eqb bound 0 → b ≡ eqb bound 31 → (a || b) ≡ comparesLength bound
 unfolding comparesLength

@@ -31,7 +31,7 @@ revertAt code (At place) = isEmptyRevert (drop place code)
 unfoldable pub isEmptyRevertGuard : List ℕ → ℕ → Bool → Bool
 isEmptyRevertGuard code pc lessThan = revertAt code (guardFailurePc code pc lessThan)
 
--- behind a double ISZERO: a jump to JUMPDEST, DIV ("it's not bool in that case" in the Rust)
+-- behind a double ISZERO: a jump to JUMPDEST, DIV (`mod.rs`: "it's not bool in that case")
 abbrev pub leadsToDivision : List ℕ → Jump → Bool
 leadsToDivision code Absent = false
 leadsToDivision code (To target next) = isAt code target JUMPDEST && isAt code (target + 1) DIV

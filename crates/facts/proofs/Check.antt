@@ -1,6 +1,7 @@
--- The walk of all chains, and what it shows. Assumes nothing.
+-- The pass over all records and their chains, and what it shows. Assumes nothing.
 use Prim.Native.Nat.{ℕ, _+_, _-_, _*_, _≤_, _<_}
 use mathlib.Core.Path.{_≡_, refl, sym, _∙_}
+use mathlib.Core.Bool.{true}
 use mathlib.Core.Logic.{_⊎_, inl, inr, ⊎-elim}
 use mathlib.Core.List.{List, [], _∷_, _++_}
 use native.Mathlib.Omega.{arith}
@@ -10,7 +11,9 @@ use Rattle.facts.proofs.Laws.{lt-or-ge}
 use Rattle.facts.proofs.Distinct.{NoDup, all-in, at-most, at-least}
 use Rattle.limits.specs.Limits.{recordWidth}
 use Rattle.facts.specs.Table.{keyOf, parentOf, childOf, nextOf}
+use Rattle.facts.specs.State.{nodeAt}
 use Rattle.facts.specs.Links.{Kid, First, Linked, In, Seg, Rising, ChainOf, Chained}
+use Rattle.facts.specs.Fact.{isFact, isUnderSeen, AreRecords}
 
 -- r comes before the key b of the chain of p
 pub record Before (t : List ℕ) (p b r : ℕ) : Type 0 where
@@ -26,12 +29,14 @@ pub record Walked (t : List ℕ) (u p b n : ℕ) : Type 0 where
   pub kid : (r : ℕ) → In r met → Kid t u (parentOf t r) r
   pub before : (r : ℕ) → In r met → Before t p b r
   pub stands : (r : ℕ) → In r met → (ms : List ℕ) × Seg t (childOf t (parentOf t r)) ms r
+  pub under-seen : (r : ℕ) → In r met → isUnderSeen t r ≡ true
   pub all : Linked t u → (r : ℕ) → 1 < r → r ≤ u → Before t p b r → In r met
 
--- before the chain of p: those before it are chains, with n records in all
+-- before the record p: those before it have passed their own tests, and have chains, with n records in all
 pub record Outer (t : List ℕ) (u p n : ℕ) : Type 0 where
   pub p1 : 1 ≤ p
   pub pu : p ≤ u + 1
+  pub facts : (q : ℕ) → 1 ≤ q → q < p → isFact (nodeAt t q) ≡ true
   pub chains : (q : ℕ) → 1 ≤ q → q < p → ChainOf t u q
   pub walked : Walked t u p 0 n
 
@@ -39,6 +44,7 @@ pub record Outer (t : List ℕ) (u p n : ℕ) : Type 0 where
 pub record Inner (t : List ℕ) (u p c b n : ℕ) : Type 0 where
   pub p1 : 1 ≤ p
   pub pu : p ≤ u
+  pub facts : (q : ℕ) → 1 ≤ q → q < p + 1 → isFact (nodeAt t q) ≡ true
   pub chains : (q : ℕ) → 1 ≤ q → q < p → ChainOf t u q
   pub ms : List ℕ
   pub seg : Seg t (childOf t p) ms c
@@ -52,6 +58,7 @@ pub start : (t : List ℕ) (u : ℕ) → 1 ≤ u → Outer t u 1 0
 start t u h = record {
   p1 = omega arith;
   pu = omega arith;
+  facts = λ q a b. absurd (omega arith);
   chains = λ q a b. absurd (omega arith);
   walked = record {
     met = [];
@@ -61,14 +68,16 @@ start t u h = record {
     kid = λ r i. absurd i;
     before = λ r i. absurd i;
     stands = λ r i. absurd i;
+    under-seen = λ r i. absurd i;
     all = λ L r r1 ru B. let g = L .up r r1 ru in let d = B .parent in let k = B .key (omega arith) in omega arith;
   };
 }
 
-pub enter : (t : List ℕ) (u p n c : ℕ) → Outer t u p n → p ≤ u → c ≡ childOf t p → Inner t u p c 0 n
-enter t u p n c O h e = record {
+pub enter : (t : List ℕ) (u p n c : ℕ) → Outer t u p n → p ≤ u → isFact (nodeAt t p) ≡ true → c ≡ childOf t p → Inner t u p c 0 n
+enter t u p n c O h f e = record {
   p1 = O .p1;
   pu = h;
+  facts = λ q q1 ql. ⊎-elim (λ (z : q ≡ p). rw z f) (λ (l : q < p). O .facts q q1 l) (eq-or-lt-of-le (let a : q ≤ p = omega arith in a));
   chains = O .chains;
   ms = [];
   seg = sym e;
@@ -96,11 +105,11 @@ rising-snoc t b (m ∷ ms) c h k f =
     (h .0, rising-snoc t (keyOf t m + 1) ms c (h .1) (let g = f m (inl refl) in omega arith) (λ x i. f x (inr i)))
 
 module _ (t : List ℕ) (u p c b n : ℕ) (I : Inner t u p c b n) where
-  -- what the four tests ask holds in a linked table
+  -- what the tests of links ask holds in a linked table
   pub ask : Linked t u → (c ≡ 0 → ⊥) → Kid t u p c × (b ≤ keyOf t c)
   ask L z = (I .told L .kid z, I .told L .from z)
 
-  module _ (z : c ≡ 0 → ⊥) (K : Kid t u p c) (h : b ≤ keyOf t c) where
+  module _ (z : c ≡ 0 → ⊥) (K : Kid t u p c) (T : isUnderSeen t c ≡ true) (h : b ≤ keyOf t c) where
     walked-all : Linked t u → (r : ℕ) → 1 < r → r ≤ u → Before t p (keyOf t c + 1) r → In r (c ∷ I .walked .met)
     walked-all L r r1 ru B = go (lt-or-ge (parentOf t r) p)
       where
@@ -127,6 +136,7 @@ module _ (t : List ℕ) (u p c b n : ℕ) (I : Inner t u p c b n) where
           (λ (e : r ≡ c). rw e (record { parent = let g = K .parent in omega arith; key = λ _. omega arith }))
           (λ (j : In r (I .walked .met)). let B = I .walked .before r j in record { parent = B .parent; key = λ q. let g = B .key q in omega arith }) i;
       stands = λ r i. ⊎-elim (λ (e : r ≡ c). (I .ms, rw e (rw (K .parent) (I .seg)))) (λ j. I .walked .stands r j) i;
+      under-seen = λ r i. ⊎-elim (λ (e : r ≡ c). rw e T) (λ j. I .walked .under-seen r j) i;
       all = walked-all;
     }
 
@@ -134,6 +144,7 @@ module _ (t : List ℕ) (u p c b n : ℕ) (I : Inner t u p c b n) where
     step c′ e = record {
       p1 = I .p1;
       pu = I .pu;
+      facts = I .facts;
       chains = I .chains;
       ms = I .ms ++ c ∷ [];
       seg = rw e (seg-snoc t (childOf t p) (I .ms) c (I .seg) z);
@@ -148,6 +159,7 @@ module _ (t : List ℕ) (u p c b n : ℕ) (I : Inner t u p c b n) where
   leave z = record {
     p1 = omega arith;
     pu = let g = I .pu in omega arith;
+    facts = I .facts;
     chains = λ q q1 ql. ⊎-elim (λ (e : q ≡ p). rw e here) (λ (l : q < p). I .chains q q1 l) (eq-or-lt-of-le (let a = ql in omega arith));
     walked = record {
       met = I .walked .met;
@@ -157,6 +169,7 @@ module _ (t : List ℕ) (u p c b n : ℕ) (I : Inner t u p c b n) where
       kid = I .walked .kid;
       before = λ r i. let B = I .walked .before r i in let g = B .parent in record { parent = omega arith; key = λ e. absurd (omega arith) };
       stands = I .walked .stands;
+      under-seen = I .walked .under-seen;
       all = λ L r r1 ru B. I .walked .all L r r1 ru (record {
         parent = low r B;
         key = λ e. I .told L .none z r (record { above = let q = L .up r r1 ru in omega arith; used = ru; parent = e });
@@ -176,17 +189,18 @@ range t u p b n h S y i = let k = S .kid y i in let r = S .root y i in let a = k
 pub bound : (t : List ℕ) (u p b n : ℕ) → 1 ≤ u → Walked t u p b n → n ≤ u - 1
 bound t u p b n h S = let e = S .count in let g = at-most (u - 1) (S .met) (S .nodup) (range t u p b n h S) in omega arith
 
-pub finish : (t : List ℕ) (u p n : ℕ) → 1 ≤ u → u * recordWidth ≤ length t → Outer t u p n → u < p → n ≡ u - 1 → Chained t u
+pub finish : (t : List ℕ) (u p n : ℕ) → 1 ≤ u → u * recordWidth ≤ length t → Outer t u p n → u < p → n ≡ u - 1 → Chained t u × AreRecords t u
 finish t u p n h w O ul e =
     let g : (r : ℕ) → 1 < r → r ≤ u → In r (O .walked .met) =
     λ r r1 ru. all-in (u - 1) (O .walked .met) (O .walked .nodup) (range t u p 0 n h (O .walked)) (O .walked .count ∙ e) r r1 (omega arith) in
-    record {
+    let chained : Chained t u = record {
       some = h;
       whole = w;
       up = λ r r1 ru. (O .walked .root r (g r r1 ru), O .walked .kid r (g r r1 ru) .above);
       chain = λ q q1 qu. O .chains q q1 (omega arith);
       placed = λ r r1 ru. O .walked .stands r (g r r1 ru);
-    }
+    } in
+    (chained, record { fact = λ r r1 ru. O .facts r r1 (omega arith); under-seen = λ r r1 ru. O .walked .under-seen r (g r r1 ru) })
 
 pub few : (t : List ℕ) (u p n : ℕ) → 1 ≤ u → Outer t u p n → u < p → (n ≡ u - 1 → ⊥) → Linked t u → ⊥
 few t u p n h O ul ne L =

@@ -52,3 +52,12 @@ counted-count n N C =
     let e = C .is in let s = C .some in let m = C .most in
     let q : n / recordWidth ≡ N = omega arith in
     sym (rw q at (counts n (omega arith) (omega arith) (omega arith)))
+
+-- a table has one count of records
+pub count-once : (numbers N M : ℕ) → Counted numbers N → Counted numbers M → N ≡ M
+count-once numbers N M C D = let c = C .is in let d = D .is in omega arith
+
+-- an answer without a number
+abbrev pub NoCount : Records → Type 0
+NoCount (Count N) = ⊥
+NoCount Unfit = Unit {0}

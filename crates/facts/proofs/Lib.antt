@@ -11,3 +11,4 @@ pub mod Kids
 pub mod Encode
 pub mod States
 pub mod Lone
+pub mod Telling

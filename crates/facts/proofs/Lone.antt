@@ -1,6 +1,7 @@
 -- The table of a lone root is sound, and its state is the root. Assumes nothing.
 use Prim.Native.Nat.{ℕ, _+_, _-_, _*_, _≤_, _<_}
 use mathlib.Core.Path.{_≡_, ap, _∙_, subst}
+use mathlib.Core.Bool.{true}
 use mathlib.Core.List.{List, [], _∷_}
 use native.Mathlib.Omega.{arith}
 use lib.ListN.{length, replicate, length-replicate, getD-replicate}
@@ -11,10 +12,10 @@ use Rattle.facts.specs.Table.{fld, put, childOf, ZeroFrom}
 use Rattle.facts.specs.Count.{Counted}
 use Rattle.facts.specs.Links.{Chained}
 use Rattle.facts.specs.State.{Node, root, nodeAt, nodes, encode}
-use Rattle.facts.specs.Fact.{isBare}
+use Rattle.facts.specs.Fact.{isBare, isFact, AreRecords}
 use Rattle.facts.specs.Sound.{Root, Sound}
 use Rattle.facts.proofs.Laws.{length-put, put-same, put-else}
-use Rattle.facts.proofs.Whole.{root-is, parts-sound}
+use Rattle.facts.proofs.Whole.{root-is, root-fact, parts-sound}
 use Rattle.facts.proofs.Encode.{sound-encode}
 
 module _ (N : ℕ) (N1 : 1 ≤ N) where
@@ -87,8 +88,14 @@ module _ (N : ℕ) (N1 : 1 ≤ N) where
       let l : i < N * recordWidth = let e = length-lone in omega arith in
       getD-set-other blank ((1 - 1) * recordWidth + field.seen) i 1 0 (λ e. omega arith) ∙ getD-replicate (N * recordWidth) i 0 0 l
 
+  records : AreRecords lone 1
+  records = record {
+    fact = λ r a b. let e : 1 ≡ r = omega arith in subst (λ (x : ℕ). isFact (nodeAt lone x) ≡ true) e (root-fact lone is-lone-root);
+    under-seen = λ r a b. absurd (omega arith);
+  }
+
   lone-sound : Sound lone 1 N
-  lone-sound = parts-sound lone 1 N length-lone (omega arith) N1 (root-is lone is-lone-root) chained (λ r a b. absurd (omega arith)) zeros
+  lone-sound = parts-sound lone 1 N length-lone (omega arith) N1 (root-is lone is-lone-root) chained records zeros
 
   lone-state : nodes lone 1 ≡ root ∷ []
   unfolding nodes

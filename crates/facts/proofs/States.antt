@@ -14,13 +14,13 @@ use Rattle.limits.specs.Fields as field
 use Rattle.facts.specs.Table.{fld, keyOf, parentOf, childOf, nextOf, seenOf, Blank}
 use Rattle.facts.specs.Links.{Kid, Linked, In, Seg, Rising, Chained}
 use Rattle.facts.specs.State.{Node, bare, root, nodeAt, nodes, nodeOf, kidsIn, kidsOf, headOr, after, nextIn, row, rows, encode}
-use Rattle.facts.specs.Fact.{isBare, isFact, AreRecords}
+use Rattle.facts.specs.Fact.{isBare, isFact, isUnderSeen}
 use Rattle.facts.specs.Sound.{Root, Sound}
 use Rattle.facts.specs.Formed.{Formed, TableOf}
 use Rattle.facts.proofs.Chains.{rising-low, in-seg, chained-linked}
 use Rattle.facts.proofs.Kids.{kids-in, in-kids, kids-rising}
 use Rattle.facts.proofs.Encode.{length-nodes, nodes-get, kids-ext, sound-encode}
-use Rattle.facts.proofs.Whole.{fact-parts, bare-zeros, root-is, parts-record, seen-under, seen-flag, blank-zero, parts-sound, sound-chained, sound-fact}
+use Rattle.facts.proofs.Whole.{fact-parts, bare-zeros, root-is, seen-under, seen-flag, blank-zero, parts-sound, sound-chained, sound-fact}
 
 -- the node with number i + 1 stands at place i
 at : (s : List Node) (i : ℕ) → getD s i (bare 0 0) ≡ nodeOf s (suc i)
@@ -215,21 +215,23 @@ module _ (N : ℕ) (s : List Node) (fit : length s ≤ N) where
       last-five = ap isBare root-node;
     }
 
-    formed-records : AreRecords T (length s)
-    formed-records r r1 rl =
+    formed-fact : (r : ℕ) → 1 ≤ r → r ≤ length s → isFact (nodeAt T r) ≡ true
+    formed-fact r r1 rl = ap isFact (node-is r r1 rl) ∙ F .fact r r1 rl
+
+    formed-under-seen : (r : ℕ) → 1 < r → r ≤ length s → isUnderSeen T r ≡ true
+    formed-under-seen r r1 rl =
         let q1 : 1 ≤ r = omega arith in
-        let f : isFact (nodeAt T r) ≡ true = ap isFact (node-is r q1 rl) ∙ F .fact r q1 rl in
         let h = F .lower r r1 rl in
         let p = nodeOf s r .parent in
         let e : seenOf T (parentOf T r) ≡ nodeOf s p .seen =
         ap (λ (x : ℕ). seenOf T x) (parent-is r q1 rl) ∙ ap (λ (n : Node). n .seen) (node-is p (h .0) (omega arith)) in
-        parts-record T r f (seen-under T r (seen-flag T r (fact-parts (nodeAt T r) f .first))
-        (λ z. e ∙ F .seen-parent r r1 rl (sym (ap (λ (n : Node). n .seen) (node-is r q1 rl)) ∙ z)))
+        seen-under T r (seen-flag T r (fact-parts (nodeAt T r) (formed-fact r q1 rl) .first))
+        (λ z. e ∙ F .seen-parent r r1 rl (sym (ap (λ (n : Node). n .seen) (node-is r q1 rl)) ∙ z))
 
     -- the table of a formed state is sound
     pub formed-sound : Sound (encode N s) (length s) N
     formed-sound =
-        parts-sound T (length s) N length-encode (F .some) fit (root-is T formed-root) formed-chained formed-records
+        parts-sound T (length s) N length-encode (F .some) fit (root-is T formed-root) formed-chained (record { fact = formed-fact; under-seen = formed-under-seen })
         (blank-zero T (length s) N length-encode beyond)
 
 -- the state read off a sound table is formed

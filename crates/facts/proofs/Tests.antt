@@ -10,7 +10,7 @@ use Rattle.limits.specs.Codes.{noName}
 use Rattle.names.specs.Elementary.{isName}
 use Rattle.facts.specs.Table.{keyOf, parentOf, nextOf, seenOf, notBoolOf, blockedOf, kindOf, countOf, nameOf, confidenceOf}
 use Rattle.facts.specs.State.{nodeAt}
-use Rattle.facts.specs.Fact.{areFlags, isBare, isBareUnseen, isKind, isConfidence, isCount, isNamed, isFact, isUnderSeen, isRecord, isRoot}
+use Rattle.facts.specs.Fact.{areFlags, isBare, isBareUnseen, isKind, isConfidence, isCount, isNamed, isFact, isUnderSeen, isRoot}
 
 module _ (t : List ℕ) (r : ℕ) where
   pub flags-are : (s n b : ℕ) → s ≡ seenOf t r → n ≡ notBoolOf t r → b ≡ blockedOf t r → (leb s 1 && leb n 1 && leb b 1) ≡ areFlags (nodeAt t r)
@@ -52,10 +52,6 @@ module _ (t : List ℕ) (r : ℕ) where
   pub under-seen-is : (p s q : ℕ) → p ≡ parentOf t r → s ≡ seenOf t r → q ≡ seenOf t p → (eqb s 0 || eqb q 1) ≡ isUnderSeen t r
   unfolding isUnderSeen
   under-seen-is p s q ep es eq = rw (← ep, ← es, ← eq)
-
-  pub record-is : (a b : Bool) → a ≡ isFact (nodeAt t r) → b ≡ isUnderSeen t r → (a && b) ≡ isRecord t r
-  unfolding isRecord
-  record-is a b ea eb = λ i. ea i && eb i
 
 pub root-is : (t : List ℕ) (s k p n m : ℕ) (b : Bool) → s ≡ seenOf t 1 → k ≡ keyOf t 1 → p ≡ parentOf t 1 → n ≡ nextOf t 1 → m ≡ notBoolOf t 1 → b ≡ isBare (nodeAt t 1) →
     (eqb s 1 && eqb k 0 && eqb p 0 && eqb n 0 && eqb m 0 && b) ≡ isRoot t

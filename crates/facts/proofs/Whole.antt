@@ -1,11 +1,9 @@
 -- Question 2 in parts, as `is_sound` asks them, and as a whole. Assumes nothing.
 use Prim.Native.Nat.{ℕ, suc, _+_, _-_, _*_, _/_, _%_, _≤_, _<_}
-use mathlib.Core.Path.{_≡_, sym, _∙_, subst}
+use mathlib.Core.Path.{_≡_, sym, _∙_}
 use mathlib.Core.Bool.{Bool, true, false, true≢false, _&&_, _||_, and-eq-true-iff}
-use mathlib.Core.Logic.{_⊎_, inl, inr}
 use mathlib.Core.List.{List}
 use native.Mathlib.Decide.{ℕ-discrete}
-use native.Mathlib.Nat.{eq-or-lt-of-le}
 use native.Mathlib.Omega.{arith}
 use borrow.Author.Tests.{eqb-true, eq-eqb, ne-eqb, leb-true}
 use lib.Dec.{eqb, leb}
@@ -15,7 +13,7 @@ use Rattle.names.specs.Elementary.{isName}
 use Rattle.facts.specs.Table.{fld, keyOf, parentOf, nextOf, seenOf, notBoolOf, blockedOf, Blank, ZeroFrom}
 use Rattle.facts.specs.Links.{Chained}
 use Rattle.facts.specs.State.{Node, nodeAt}
-use Rattle.facts.specs.Fact.{areFlags, isBare, isBareUnseen, isKind, isConfidence, isCount, isNamed, isFact, isUnderSeen, isRecord, AreRecords, isRoot}
+use Rattle.facts.specs.Fact.{areFlags, isBare, isBareUnseen, isKind, isConfidence, isCount, isNamed, isFact, isUnderSeen, AreRecords, isRoot}
 use Rattle.facts.specs.Sound.{Root, Sound}
 use Rattle.facts.proofs.Laws.{column}
 
@@ -130,14 +128,6 @@ module _ (t : List ℕ) (r : ℕ) where
       go (yes z) = simp (eq-eqb (seenOf t r) 0 z)
       go (no n) = simp (ne-eqb (seenOf t r) 0 n, eq-eqb (seenOf t (parentOf t r)) 1 (f (omega arith)))
 
-  pub record-parts : isRecord t r ≡ true → (isFact (nodeAt t r) ≡ true) × (isUnderSeen t r ≡ true)
-  unfolding isRecord
-  record-parts h = and-eq-true-iff (isFact (nodeAt t r)) (isUnderSeen t r) .0 h
-
-  pub parts-record : isFact (nodeAt t r) ≡ true → isUnderSeen t r ≡ true → isRecord t r ≡ true
-  unfolding isRecord
-  parts-record a b = λ i. a i && b i
-
   -- flags are 0 or 1
   pub seen-flag : areFlags (nodeAt t r) ≡ true → seenOf t r ≤ 1
   seen-flag h =
@@ -180,8 +170,10 @@ module _ (t : List ℕ) (u N : ℕ) where
     })
 
     pub sound-records : AreRecords t u
-    sound-records r r1 ru =
-        parts-record t r (sound-fact r (omega arith) ru) (seen-under t r (seen-flag t r (S .flags r (omega arith) ru)) (S .seen-parent r r1 ru))
+    sound-records = record {
+      fact = sound-fact;
+      under-seen = λ r r1 ru. seen-under t r (seen-flag t r (S .flags r (omega arith) ru)) (S .seen-parent r r1 ru);
+    }
 
     pub sound-zero : ZeroFrom t (u * recordWidth)
     sound-zero = blank-zero t u N (S .size) (S .beyond)
@@ -197,7 +189,7 @@ module _ (t : List ℕ) (u N : ℕ) where
     lower = C .up;
     stands = C .placed;
     chain = C .chain;
-    seen-parent = λ r r1 ru. under-seen t r (record-parts t r (A r r1 ru) .1);
+    seen-parent = λ r r1 ru. under-seen t r (A .under-seen r r1 ru);
     unseen = λ r r1 ru. facts r r1 ru .second;
     kind = λ r r1 ru. facts r r1 ru .third;
     confidence = λ r r1 ru. facts r r1 ru .fourth;
@@ -206,9 +198,5 @@ module _ (t : List ℕ) (u N : ℕ) where
     root = is-root t R;
   }
     where
-      fact : (r : ℕ) → (1 ≡ r) ⊎ (1 < r) → r ≤ u → isFact (nodeAt t r) ≡ true
-      fact r (inl e) ru = subst (λ (x : ℕ). isFact (nodeAt t x) ≡ true) e (root-fact t (is-root t R))
-      fact r (inr l) ru = record-parts t r (A r l ru) .0
-
       facts : (r : ℕ) → 1 ≤ r → r ≤ u → Six (areFlags (nodeAt t r)) (isBareUnseen (nodeAt t r)) (isKind (nodeAt t r)) (isConfidence (nodeAt t r)) (isCount (nodeAt t r)) (isNamed (nodeAt t r))
-      facts r r1 ru = fact-parts (nodeAt t r) (fact r (eq-or-lt-of-le r1) ru)
+      facts r r1 ru = fact-parts (nodeAt t r) (A .fact r r1 ru)

@@ -49,13 +49,10 @@ isFact n = areFlags n && isBareUnseen n && isKind n && isConfidence n && isCount
 unfoldable pub isUnderSeen : List ℕ → ℕ → Bool
 isUnderSeen t r = eqb (seenOf t r) 0 || eqb (seenOf t (parentOf t r)) 1
 
--- what question 2 asks of a record other than the root, its chain apart
-unfoldable pub isRecord : List ℕ → ℕ → Bool
-isRecord t r = isFact (nodeAt t r) && isUnderSeen t r
-
--- each used record but the root passes
-abbrev pub AreRecords : List ℕ → ℕ → Type 0
-AreRecords t used = (r : ℕ) → 1 < r → r ≤ used → isRecord t r ≡ true
+-- what question 2 asks of the used records, their chains apart
+pub record AreRecords (t : List ℕ) (used : ℕ) : Type 0 where
+  pub fact : (r : ℕ) → 1 ≤ r → r ≤ used → isFact (nodeAt t r) ≡ true
+  pub under-seen : (r : ℕ) → 1 < r → r ≤ used → isUnderSeen t r ≡ true
 
 -- "The root is seen, otherwise zero but for child."
 unfoldable pub isRoot : List ℕ → Bool

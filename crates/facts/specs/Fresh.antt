@@ -9,3 +9,8 @@ use Rattle.facts.specs.declared.Records.the-variants.{Count, Unfit}
 abbrev pub freshTable : Records → List ℕ → List ℕ
 freshTable (Count N) t = encode N (root ∷ [])
 freshTable Unfit t = t
+
+-- document 01's number for each answer of a fresh call; the 0 of one that is taken is ours
+abbrev pub numberOf : Records → ℕ
+numberOf (Count N) = 0
+numberOf Unfit = 1

@@ -2,7 +2,7 @@
 ghost use mathlib.Core.Path.{_≡_};
 ghost use Rattle.facts.specs.Table.{parentOf, HasRecord};
 ghost use Rattle.facts.specs.State.{nodeAt};
-ghost use Rattle.facts.specs.Fact.{areFlags, isBare, isBareUnseen, isKind, isConfidence, isCount, isNamed, isFact, isUnderSeen, isRecord, isRoot};
+ghost use Rattle.facts.specs.Fact.{areFlags, isBare, isBareUnseen, isKind, isConfidence, isCount, isNamed, isFact, isUnderSeen, isRoot};
 use crate::table::field;
 use limits::ARRAY_COUNT_MAX;
 use limits::CONFIDENCE_MAX;
@@ -98,7 +98,7 @@ fn is_named(table: &[u32], r: u32) -> bool
 }
 
 // Does the record pass all of these?
-fn is_fact(table: &[u32], r: u32) -> bool
+pub fn is_fact(table: &[u32], r: u32) -> bool
     requires { ⌜ HasRecord (now table) r ⌝ }
     ensures { λ b. ⌜ b ≡ isFact (nodeAt (now (table .entry)) r) ⌝ }
 {
@@ -110,23 +110,13 @@ fn is_fact(table: &[u32], r: u32) -> bool
         & is_named(table, r)
 }
 
-// Is the parent seen, if the record is?
-fn is_under_seen(table: &[u32], r: u32) -> bool
+// Is its parent seen, if the record is?
+pub fn is_under_seen(table: &[u32], r: u32, parent: u32) -> bool
     requires { ⌜ HasRecord (now table) r ⌝ }
-    requires { ⌜ HasRecord (now table) (parentOf (now table) r) ⌝ }
+    requires { ⌜ HasRecord (now table) parent × (parent ≡ parentOf (now table) r) ⌝ }
     ensures { λ b. ⌜ b ≡ isUnderSeen (now (table .entry)) r ⌝ }
 {
-    let parent = field(table, r, PARENT);
     (field(table, r, SEEN) == 0) | (field(table, parent, SEEN) == 1)
-}
-
-// Does the record, which is not the root, pass all tests?
-pub fn is_record(table: &[u32], r: u32) -> bool
-    requires { ⌜ HasRecord (now table) r ⌝ }
-    requires { ⌜ HasRecord (now table) (parentOf (now table) r) ⌝ }
-    ensures { λ b. ⌜ b ≡ isRecord (now (table .entry)) r ⌝ }
-{
-    is_fact(table, r) & is_under_seen(table, r)
 }
 
 // Is record 1 a root: seen, otherwise zero but for child?

@@ -9,6 +9,7 @@ mod table;
 pub use count::record_count;
 pub use sound::is_sound;
 pub use start::fresh;
+pub use start::number_of;
 pub use table::field;
 pub use table::set_field;
 

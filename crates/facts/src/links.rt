@@ -1,36 +1,56 @@
-// The chains of question 2.
+// The chains of question 2, and the tests of the records in them.
 ghost use mathlib.Core.Path.{_≡_};
 ghost use Prim.Native.Nat.{_*_, _≤_};
 ghost use lib.ListN.{length};
 ghost use Rattle.limits.specs.Limits.{recordWidth, recordsMax};
-ghost use Rattle.facts.specs.Links.{Chained};
+ghost use Rattle.facts.specs.Links.{Kid, Chained};
+ghost use Rattle.facts.specs.Fact.{AreRecords};
 ghost use Rattle.facts.specs.Sound.{Tells};
+use crate::fact::is_fact;
+use crate::fact::is_under_seen;
 use crate::table::field;
 use limits::fields::CHILD;
 use limits::fields::KEY;
 use limits::fields::NEXT;
 use limits::fields::PARENT;
 
-// Does each used record but the root stand once in the chain of its parent, and nothing else in a chain? Each chain is walked once, with low one
-// above the last key, and the records met are counted.
-pub fn is_chained(table: &[u32], used: u32) -> bool
+// Is c a child of p by its own fields?
+fn is_kid(table: &[u32], used: u32, p: u32, c: u32) -> bool
+    requires { ⌜ used * recordWidth ≤ length (now table) ⌝ }
+    ensures { λ b. ⌜ Tells b (Kid (now (table .entry)) used p c) ⌝ }
+{
+    if c <= p {
+        return false;
+    }
+    if used < c {
+        return false;
+    }
+    if field(table, c, PARENT) != p {
+        return false;
+    }
+    true
+}
+
+// Does each used record but the root stand once in the chain of its parent, and nothing else in a chain, and do all pass their tests? One pass over the
+// records tests each and walks its chain, with low one above the last key; the records met are counted.
+pub fn are_chained_records(table: &[u32], used: u32) -> bool
     requires { ⌜ (1 ≤ used) × (used ≤ recordsMax) ⌝ }
     requires { ⌜ used * recordWidth ≤ length (now table) ⌝ }
-    ensures { λ b. ⌜ Tells b (Chained (now (table .entry)) used) ⌝ }
+    ensures { λ b. ⌜ Tells b (Chained (now (table .entry)) used × AreRecords (now (table .entry)) used) ⌝ }
 {
     let mut met: u32 = 0;
     let mut p: u32 = 1;
     while p <= used {
+        if !is_fact(table, p) {
+            return false;
+        }
         let mut c = field(table, p, CHILD);
         let mut low: u64 = 0;
         while c != 0 {
-            if c <= p {
+            if !is_kid(table, used, p, c) {
                 return false;
             }
-            if used < c {
-                return false;
-            }
-            if field(table, c, PARENT) != p {
+            if !is_under_seen(table, c, p) {
                 return false;
             }
             let k = field(table, c, KEY) as u64;

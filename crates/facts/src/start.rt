@@ -3,7 +3,7 @@ ghost use mathlib.Core.Path.{_≡_};
 ghost use Prim.Native.Nat.{ℕ};
 ghost use lib.ListN.{length, replicate};
 ghost use Rattle.facts.specs.Count.{recordCount};
-ghost use Rattle.facts.specs.Fresh.{freshTable};
+ghost use Rattle.facts.specs.Fresh.{freshTable, numberOf};
 use crate::Records;
 use crate::count::record_count;
 use crate::table::set_field;
@@ -32,4 +32,14 @@ pub fn fresh(table: &mut [u32]) -> Records
     clear(table);
     set_field(table, 1, SEEN, 1);
     Records::Count(n)
+}
+
+// Document 01's number for the answer, 0 for a fresh call that is taken.
+pub fn number_of(records: Records) -> u32
+    ensures { λ r. ⌜ r ≡ numberOf records ⌝ }
+{
+    match records {
+        Records::Count(n) => 0,
+        Records::Unfit => 1,
+    }
 }

@@ -4,4 +4,4 @@ mod UpLaws
 pub mod FillLaws
 pub mod Counts
 pub mod KindSounds
-mod ChainLaws
+pub mod ChainLaws

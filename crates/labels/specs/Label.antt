@@ -2,10 +2,10 @@
 -- definitions.
 use Prim.Native.Nat.{ℕ, _+_}
 use mathlib.Core.Bool.{cond}
-use mathlib.Core.List.{List, [], _∷_, _++_}
+use mathlib.Core.List.{List, _∷_}
 use lib.Dec.{eqb}
 use lib.ListN.{getD, replicate}
-use Rattle.limits.specs.Layout.{labelWidth, labelOffset, labelPath, labelAdded, labelMasked, labelMask, labelNone, labelCallData, labelArgument, labelZeroTest}
+use Rattle.limits.specs.Layout.{labelWidth, labelOffset, labelPath, labelAdded, labelMasked, labelMask, labelCallData, labelArgument, labelZeroTest}
 use Rattle.word.specs.Numbers.{limbsAt, numbersOf}
 use Rattle.labels.specs.declared.Label.{Label}
 use Rattle.labels.specs.declared.Label.the-variants.{Unlabelled, CallData, Arg, IsZeroResult}

@@ -59,15 +59,10 @@ chosenOr test e other d = onArg (e .label) (λ v. cond (test v) (Chosen v (e .wo
 unfoldable pub choose : (Val → Bool) → Element → Element → Choice
 choose test a b = chosenOr test a b (chosenOr test b a Neither)
 
--- f of what was chosen: the argument, its own word and the other operand
-abbrev pub onChoice : {A : Type 0} → Choice → (Val → Element → A) → A → A
-onChoice (Chosen v w other) f d = f v other
-onChoice Neither f d = d
-
 -- do two labels speak of one argument with one constant added?
 unfoldable pub sameArg : Val → Val → Bool
 sameArg v w = eqb (v .offset) (w .offset) && eqb (v .path) (w .path) && eqb (v .«add_val») (w .«add_val»)
 
--- is it the length at that path: "kind 2, offset 0, that path, added 0, masked or not"?
+-- is it the length at that path (reading: "kind 2, offset 0, that path, added 0, masked or not")?
 unfoldable pub isLengthOf : ℕ → Label → Bool
 isLengthOf path l = onArg l (λ v. isLength v && eqb (v .path) path) false

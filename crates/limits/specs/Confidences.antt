@@ -1,5 +1,6 @@
 -- "Confidences: BYTE 4; AND and double ISZERO 5; range 6; SDIV, SMOD 8; bytes 10; MSTORE8 12; the rest 20." Assumes nothing.
 use Prim.Native.Nat.{ℕ}
+use Rattle.limits.specs.Limits.{rangeConfidence}
 
 abbrev pub byByte : ℕ
 byByte = 4
@@ -9,7 +10,7 @@ abbrev pub byCheck : ℕ
 byCheck = 5
 
 abbrev pub byRange : ℕ
-byRange = 6
+byRange = rangeConfidence
 
 -- SDIV and SMOD
 abbrev pub bySign : ℕ

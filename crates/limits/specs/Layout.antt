@@ -20,10 +20,7 @@ labelMasked = 4
 abbrev pub labelMask : ℕ
 labelMask = 5
 
--- "A label is none, call data, argument, or zero test of an argument": its kinds
-abbrev pub labelNone : ℕ
-labelNone = 0
-
+-- "A label is none, call data, argument, or zero test of an argument": its kinds, 0 for none
 abbrev pub labelCallData : ℕ
 labelCallData = 1
 

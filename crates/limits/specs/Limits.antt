@@ -70,3 +70,7 @@ entriesMax = 1024
 -- "followed for offsets 4 to 130,047"
 abbrev pub loadMax : ℕ
 loadMax = 130047
+
+-- "no fact lies deeper than 64": the Rust's `MAX_ARGUMENT_DEPTH`
+abbrev pub depthMax : ℕ
+depthMax = 64

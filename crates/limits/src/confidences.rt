@@ -1,10 +1,12 @@
 // "Confidences: BYTE 4; AND and double ISZERO 5; range 6; SDIV, SMOD 8; bytes 10; MSTORE8 12; the rest 20."
+use crate::RANGE_CONFIDENCE;
+
 pub const BY_BYTE: u32 = 4;
 
 // AND and double ISZERO.
 pub const BY_CHECK: u32 = 5;
 
-pub const BY_RANGE: u32 = 6;
+pub const BY_RANGE: u32 = RANGE_CONFIDENCE;
 
 // SDIV and SMOD.
 pub const BY_SIGN: u32 = 8;

@@ -3,6 +3,7 @@
 pub mod codes;
 pub mod confidences;
 pub mod fields;
+pub mod input;
 pub mod layout;
 
 // Bytes of an EVM word. Keys, offsets and multipliers count in bytes, arguments and counts in words.
@@ -53,3 +54,9 @@ pub const ENTRIES_MAX: usize = 1024;
 
 // "followed for offsets 4 to 130,047": the largest offset of a load that is followed.
 pub const LOAD_MAX: u32 = 130047;
+
+// The Rust's `MAX_ARGUMENT_WORDS`: a longer head is not filled.
+pub const ARGUMENT_WORDS_MAX: u32 = 4096;
+
+// "no fact lies deeper than 64": the Rust's `MAX_ARGUMENT_DEPTH`.
+pub const DEPTH_MAX: u32 = 64;

@@ -51,7 +51,7 @@ offset-lost m h = offset-above m m refl (omega arith)
 
 -- not followed
 module _ (m o : ℕ) (e : o ≡ followedOffset m) (z : o ≡ 0) where
-  unfollowed : isFollowed m ≡ false
+  pub unfollowed : isFollowed m ≡ false
   unfollowed = go (isFollowed m) refl (sym e ∙ z)
     where
       go : (b : Bool) → isFollowed m ≡ b → cond b m 0 ≡ 0 → b ≡ false
@@ -72,7 +72,7 @@ module _ (m o : ℕ) (e : o ≡ followedOffset m) (z : o ≡ 0) where
 
 -- followed
 module _ (m o : ℕ) (e : o ≡ followedOffset m) (n0 : o ≡ 0 → ⊥) where
-  told : (isFollowed m ≡ true) × (o ≡ m)
+  pub told : (isFollowed m ≡ true) × (o ≡ m)
   told = go (isFollowed m) refl e
     where
       go : (b : Bool) → isFollowed m ≡ b → o ≡ cond b m 0 → (b ≡ true) × (o ≡ m)

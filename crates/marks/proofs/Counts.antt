@@ -11,17 +11,17 @@ use Rattle.limits.specs.Fields as field
 use Rattle.limits.specs.Limits.{rangeConfidence}
 use Rattle.facts.specs.State.{Node, nodeOf}
 use Rattle.paths.specs.Update.{update}
-use Rattle.paths.specs.Find.{findIn}
+use Rattle.paths.specs.Find.{findIn, getMut}
 use Rattle.paths.specs.Make.{ensure, missing, getOrCreate}
 use Rattle.paths.specs.Adds.{SamePaths, AddsPath}
 use Rattle.paths.proofs.Alike.{Alike, alike-refl, alike-is, alike-trans, alike-cond, alike-update, alike-twice, alike-create, alike-ensure}
-use Rattle.paths.proofs.Lookups.{ensure-there}
+use Rattle.paths.proofs.Lookups.{ensure-there, got-node}
 use Rattle.paths.proofs.Adds.{alike-same, alike-adds}
-use Rattle.marks.specs.Names.{isRange, dropName, giveName, isNotBool, isSeen, nameAt, nameMade, setTname, insertNotBool, dropBool, markNotBool}
-use Rattle.marks.specs.Hints.{clearAt, clearRangeHint}
+use Rattle.marks.specs.Names.{isRange, dropName, giveName, isNotBool, nameAt, nameMade, setTname, insertNotBool, dropBoolAt, dropBool, markNotBool}
+use Rattle.marks.specs.Hints.{clearAt, clearRangeHint, hasRangeHint}
 use Rattle.marks.proofs.NameLaws.{stops, keeps, bars}
 
--- a path that is marked or seen is there
+-- a path that is marked or has a range name is there
 there : (r : ℕ) (b : Bool) → (not (eqb r 0) && b) ≡ true → r ≡ 0 → ⊥
 there r b e = eqb-false r 0 (not-true (eqb r 0) (and-eq-true-iff (not (eqb r 0)) b .0 e .0))
 
@@ -29,8 +29,9 @@ module _ (s : List Node) (p k : ℕ) where
   pub marked-there : isNotBool s p k ≡ true → findIn s p k ≡ 0 → ⊥
   marked-there e = there (findIn s p k) (eqb (nodeOf s (findIn s p k) .notBool) 1) e
 
-  pub seen-there : isSeen s p k ≡ true → findIn s p k ≡ 0 → ⊥
-  seen-there e = there (findIn s p k) (eqb (nodeOf s (findIn s p k) .seen) 1) e
+  pub hint-there : hasRangeHint s p k ≡ true → findIn s p k ≡ 0 → ⊥
+  unfolding hasRangeHint
+  hint-there e = got-node s p k (there (getMut s p k) (isRange (nodeOf s (getMut s p k))) e) .there
 
 -- a name at a node moves no path
 pub alike-name : (s : List Node) (r name confidence : ℕ) → Alike s (nameAt s r name confidence)
@@ -60,8 +61,9 @@ alike-drop-name s r = alike-twice s r field.name code.noName field.confidence 0
 
 pub alike-drop-bool : (s : List Node) (p k : ℕ) → Alike s (dropBool s p k)
 alike-drop-bool s p k =
-    alike-cond s (isSeen s p k && (eqb (nodeOf s (findIn s p k) .name) code.bool || isRange (nodeOf s (findIn s p k)))) (dropName s (findIn s p k)) s
-    (alike-drop-name s (findIn s p k)) (alike-refl s)
+    alike-cond s (eqb (getMut s p k) 0) s (dropBoolAt s (getMut s p k)) (alike-refl s)
+    (alike-cond s (eqb (nodeOf s (getMut s p k) .name) code.bool || isRange (nodeOf s (getMut s p k))) (dropName s (getMut s p k)) s
+    (alike-drop-name s (getMut s p k)) (alike-refl s))
 
 pub alike-mark-not-bool : (s : List Node) (p k : ℕ) → Alike (ensure s p k .state) (markNotBool s p k)
 unfolding markNotBool
@@ -78,7 +80,7 @@ alike-clear s r block =
 pub alike-clear-range-hint : (s : List Node) (p k block : ℕ) → Alike s (clearRangeHint s p k block)
 unfolding clearRangeHint
 alike-clear-range-hint s p k block =
-    alike-cond s (isSeen s p k) (clearAt s (findIn s p k) block) s (alike-clear s (findIn s p k) block) (alike-refl s)
+    alike-cond s (eqb (getMut s p k) 0) s (clearAt s (getMut s p k) block) (alike-refl s) (alike-clear s (getMut s p k) block)
 
 -- numbers, paths and lookups, by operation
 module _ (s : List Node) (p k : ℕ) where

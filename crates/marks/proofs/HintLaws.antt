@@ -5,59 +5,47 @@ use mathlib.Core.Bool.{Bool, true, false, cond, not, _&&_}
 use mathlib.Core.List.{List}
 use native.Mathlib.Omega.{arith}
 use lib.Dec.{eqb}
-use borrow.Author.Tests.{not-true, not-false}
+use borrow.Author.Tests.{eq-eqb, ne-eqb}
 use Rattle.limits.specs.Fields as field
 use Rattle.limits.specs.Limits.{rangeConfidence}
 use Rattle.facts.specs.Table.{blockedOf, confidenceOf}
 use Rattle.facts.specs.State.{Node, nodes, nodeOf}
 use Rattle.paths.specs.Shape.{Shaped}
 use Rattle.paths.specs.Update.{update}
-use Rattle.paths.specs.Find.{findIn}
+use Rattle.paths.specs.Find.{getMut}
 use Rattle.paths.specs.Holds.{Holds}
-use Rattle.marks.specs.Names.{isRange, isSeen, dropName}
+use Rattle.marks.specs.Names.{isRange, dropName}
 use Rattle.marks.specs.Hints.{clearAt, clearRangeHint, hasRangeHint}
-use Rattle.marks.proofs.NameLaws.{blocked-is, confidence-is, case-yes, case-no, stays, then, same-state, seen-none}
+use Rattle.marks.proofs.NameLaws.{blocked-is, confidence-is, case-yes, case-no, stays, then, same-state}
 
 -- is there a hint?
-module _ (t : List ℕ) (u p k : ℕ) (b : Bool) (eb : b ≡ isSeen (nodes t u) p k) where
-  pub hint-unseen : not b ≡ true → false ≡ hasRangeHint (nodes t u) p k
+module _ (t : List ℕ) (u p k c : ℕ) (e : c ≡ getMut (nodes t u) p k) where
+  pub hint-none : c ≡ 0 → false ≡ hasRangeHint (nodes t u) p k
   unfolding hasRangeHint
-  hint-unseen e =
-      let q : false ≡ isSeen (nodes t u) p k = sym (not-true b e) ∙ eb in
-      ap (λ (x : Bool). x && isRange (nodeOf (nodes t u) (findIn (nodes t u) p k))) q
+  hint-none z = rw (eq-eqb (getMut (nodes t u) p k) 0 (sym e ∙ z)) refl
 
-  pub hint-none : (c : ℕ) → c ≡ findIn (nodes t u) p k → c ≡ 0 → false ≡ hasRangeHint (nodes t u) p k
+  pub hint-told : (w : ℕ) → c ≤ u → (c ≡ 0 → ⊥) → w ≡ confidenceOf t c → eqb w rangeConfidence ≡ hasRangeHint (nodes t u) p k
   unfolding hasRangeHint
-  hint-none c e z = ap (λ (x : Bool). x && isRange (nodeOf (nodes t u) (findIn (nodes t u) p k))) (seen-none (nodes t u) p k c e z)
-
-  pub hint-told : (c w : ℕ) → not b ≡ false → c ≡ findIn (nodes t u) p k → c ≤ u → (c ≡ 0 → ⊥) → w ≡ confidenceOf t c
-      → eqb w rangeConfidence ≡ hasRangeHint (nodes t u) p k
-  unfolding hasRangeHint
-  hint-told c w s e cu n ew =
-      let q : true ≡ isSeen (nodes t u) p k = sym (not-false b s) ∙ eb in
-      ap (λ (x : ℕ). eqb x rangeConfidence) (confidence-is t u c w (omega arith) cu ew) ∙ (λ i. q i && isRange (nodeOf (nodes t u) (e i)))
+  hint-told w cu n ew =
+      ap (λ (x : ℕ). eqb x rangeConfidence) (confidence-is t u c w (omega arith) cu ew)
+      ∙ (λ i. not (sym (ne-eqb (getMut (nodes t u) p k) 0 (λ z. n (e ∙ z))) i) && isRange (nodeOf (nodes t u) (e i)))
 
 -- a hint cleared at a path
-module _ (t : List ℕ) (u N p k block : ℕ) (b : Bool) (eb : b ≡ isSeen (nodes t u) p k) where
-  pub clear-unseen : Shaped t u N → not b ≡ true → Holds t u N (clearRangeHint (nodes t u) p k block)
+module _ (t : List ℕ) (u N p k block c : ℕ) (e : c ≡ getMut (nodes t u) p k) where
+  pub clear-none : Shaped t u N → c ≡ 0 → Holds t u N (clearRangeHint (nodes t u) p k block)
   unfolding clearRangeHint
-  clear-unseen S e =
+  clear-none S z =
       stays t u N (clearRangeHint (nodes t u) p k block) S
-      (case-no (isSeen (nodes t u) p k) (clearAt (nodes t u) (findIn (nodes t u) p k) block) (nodes t u) (sym eb ∙ not-true b e))
+      (case-yes (eqb (getMut (nodes t u) p k) 0) (nodes t u) (clearAt (nodes t u) (getMut (nodes t u) p k) block)
+      (eq-eqb (getMut (nodes t u) p k) 0 (sym e ∙ z)))
 
-  pub clear-none : (c : ℕ) → Shaped t u N → c ≡ findIn (nodes t u) p k → c ≡ 0 → Holds t u N (clearRangeHint (nodes t u) p k block)
+  pub clear-some : (t′ : List ℕ) → (c ≡ 0 → ⊥) → Holds t′ u N (clearAt (nodes t u) c block) → Holds t′ u N (clearRangeHint (nodes t u) p k block)
   unfolding clearRangeHint
-  clear-none c S e z =
-      stays t u N (clearRangeHint (nodes t u) p k block) S
-      (case-no (isSeen (nodes t u) p k) (clearAt (nodes t u) (findIn (nodes t u) p k) block) (nodes t u) (sym (seen-none (nodes t u) p k c e z)))
-
-  pub clear-some : (c : ℕ) (t′ : List ℕ) → not b ≡ false → c ≡ findIn (nodes t u) p k → Holds t′ u N (clearAt (nodes t u) c block)
-      → Holds t′ u N (clearRangeHint (nodes t u) p k block)
-  unfolding clearRangeHint
-  clear-some c t′ s e H =
+  clear-some t′ n H =
       same-state t′ u N (clearAt (nodes t u) c block) (clearRangeHint (nodes t u) p k block) H
       (ap (λ (r : ℕ). clearAt (nodes t u) r block) e
-      ∙ case-yes (isSeen (nodes t u) p k) (clearAt (nodes t u) (findIn (nodes t u) p k) block) (nodes t u) (sym eb ∙ not-false b s))
+      ∙ case-no (eqb (getMut (nodes t u) p k) 0) (nodes t u) (clearAt (nodes t u) (getMut (nodes t u) p k) block)
+      (ne-eqb (getMut (nodes t u) p k) 0 (λ z. n (e ∙ z))))
 
 -- a record blocked if asked
 abbrev pub blocks : List Node → ℕ → ℕ → List Node

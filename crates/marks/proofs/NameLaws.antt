@@ -1,11 +1,11 @@
--- Names and not-bool marks: what the code's tests and calls come to, over plain numbers, tables and states. Assumes nothing.
+-- Names: what the code's tests and calls come to, over plain numbers, tables and states. Assumes nothing.
 use Prim.Native.Nat.{ℕ, _≤_, _<_}
 use mathlib.Core.Path.{_≡_, refl, sym, ap, _∙_}
 use mathlib.Core.Bool.{Bool, true, false, cond, not, _&&_, _||_, and-false}
 use mathlib.Core.List.{List}
 use native.Mathlib.Omega.{arith}
 use lib.Dec.{eqb, leb}
-use borrow.Author.Tests.{eq-eqb, ne-eqb, le-leb, lt-leb, not-true, not-false}
+use borrow.Author.Tests.{eq-eqb, ne-eqb, le-leb, lt-leb}
 use Rattle.limits.specs.Codes as code
 use Rattle.limits.specs.Fields as field
 use Rattle.limits.specs.Limits.{rangeConfidence}
@@ -15,11 +15,10 @@ use Rattle.facts.proofs.Encode.{nodes-get}
 use Rattle.paths.specs.Shape.{Shaped}
 use Rattle.paths.specs.Update.{update}
 use Rattle.paths.specs.Find.{findIn}
-use Rattle.paths.specs.Make.{ensure, getOrCreate}
+use Rattle.paths.specs.Make.{getOrCreate}
 use Rattle.paths.specs.Holds.{Holds, Makes}
-use Rattle.paths.proofs.Lookups.{find-update}
 use Rattle.marks.specs.Grows.{Grows}
-use Rattle.marks.specs.Names.{isRange, dropName, giveName, isNotBool, isSeen, nameAt, nameMade, setTname, insertNotBool, dropBool, markNotBool}
+use Rattle.marks.specs.Names.{giveName, isNotBool, nameAt, nameMade, setTname}
 
 -- a number read from a record is its node's
 module _ (t : List ℕ) (u r v : ℕ) (r1 : 1 ≤ r) (ru : r ≤ u) where
@@ -64,30 +63,15 @@ pub given : (t t₁ t₂ : List ℕ) (u N r name confidence : ℕ) → Holds t�
     → Holds t₂ u N (update (nodes t₁ u) r field.confidence confidence) → Holds t₂ u N (giveName (nodes t u) r name confidence)
 given t t₁ t₂ u N r name confidence H K = then (λ (s : List Node). update s r field.confidence confidence) t₁ t₂ u N (update (nodes t u) r field.name name) H K
 
--- a path that is not there is neither seen nor marked
-module _ (s : List Node) (p k c : ℕ) (e : c ≡ findIn s p k) where
-  path-none : (b : Bool) → c ≡ 0 → false ≡ (not (eqb (findIn s p k) 0) && b)
-  path-none b z = rw (eq-eqb (findIn s p k) 0 (sym e ∙ z)) refl
+-- a path that is not there is not marked
+pub not-bool-none : (s : List Node) (p k c : ℕ) → c ≡ findIn s p k → c ≡ 0 → false ≡ isNotBool s p k
+not-bool-none s p k c e z = rw (eq-eqb (findIn s p k) 0 (sym e ∙ z)) refl
 
-  path-some : (b : Bool) → (c ≡ 0 → ⊥) → b ≡ (not (eqb (findIn s p k) 0) && b)
-  path-some b n = rw (ne-eqb (findIn s p k) 0 (λ z. n (e ∙ z))) refl
-
-  pub seen-none : c ≡ 0 → false ≡ isSeen s p k
-  seen-none z = path-none (eqb (nodeOf s (findIn s p k) .seen) 1) z
-
-  pub not-bool-none : c ≡ 0 → false ≡ isNotBool s p k
-  not-bool-none z = path-none (eqb (nodeOf s (findIn s p k) .notBool) 1) z
-
-module _ (t : List ℕ) (u p k c : ℕ) (e : c ≡ findIn (nodes t u) p k) (cu : c ≤ u) (n : c ≡ 0 → ⊥) where
-  pub seen-some : (v : ℕ) → v ≡ seenOf t c → eqb v 1 ≡ isSeen (nodes t u) p k
-  seen-some v ev =
-      ap (λ (x : ℕ). eqb x 1) (seen-is t u c v (omega arith) cu ev) ∙ ap (λ (r : ℕ). eqb (nodeOf (nodes t u) r .seen) 1) e
-      ∙ path-some (nodes t u) p k c e (eqb (nodeOf (nodes t u) (findIn (nodes t u) p k) .seen) 1) n
-
-  pub not-bool-some : (v : ℕ) → v ≡ notBoolOf t c → eqb v 1 ≡ isNotBool (nodes t u) p k
-  not-bool-some v ev =
-      ap (λ (x : ℕ). eqb x 1) (not-bool-is t u c v (omega arith) cu ev) ∙ ap (λ (r : ℕ). eqb (nodeOf (nodes t u) r .notBool) 1) e
-      ∙ path-some (nodes t u) p k c e (eqb (nodeOf (nodes t u) (findIn (nodes t u) p k) .notBool) 1) n
+pub not-bool-some : (t : List ℕ) (u p k c : ℕ) → c ≡ findIn (nodes t u) p k → c ≤ u → (c ≡ 0 → ⊥) → (v : ℕ) → v ≡ notBoolOf t c
+    → eqb v 1 ≡ isNotBool (nodes t u) p k
+not-bool-some t u p k c e cu n v ev =
+    ap (λ (x : ℕ). eqb x 1) (not-bool-is t u c v (omega arith) cu ev) ∙ ap (λ (r : ℕ). eqb (nodeOf (nodes t u) r .notBool) 1) e
+    ∙ rw (ne-eqb (findIn (nodes t u) p k) 0 (λ z. n (e ∙ z))) refl
 
 -- the name at a record: does a block stop it, does the standing one keep its place?
 abbrev pub stops : List Node → ℕ → ℕ → Bool
@@ -165,72 +149,3 @@ module _ (u N : ℕ) (s : List Node) (p k name confidence : ℕ) where
     state = H .state ∙ (λ i. nameAt (M .state i) (M .number i) name confidence) ∙ case-no (bars s p k name confidence) s (nameMade (getOrCreate s p k) name confidence) f;
     range = (M .range .2, M .range .3);
   }
-
--- a not-bool mark at a path
-pub marked : (u N : ℕ) (s : List Node) (p k : ℕ) (t t′ : List ℕ) (used r : ℕ) → Makes u (ensure s p k) t used N r → Holds t′ used N (update (nodes t used) r field.notBool 1)
-    → Grows u (insertNotBool s p k) t′ used N
-unfolding insertNotBool
-marked u N s p k t t′ used r M H = record {
-  shaped = H .shaped;
-  state = H .state ∙ (λ i. update (M .state i) (M .number i) field.notBool 1);
-  range = (M .range .2, M .range .3);
-}
-
--- a bool or a range name dropped
-module _ (t : List ℕ) (u N p k : ℕ) (b : Bool) (eb : b ≡ isSeen (nodes t u) p k) where
-  abbrev Loose : ℕ → Bool
-  Loose r = eqb (nodeOf (nodes t u) r .name) code.bool || isRange (nodeOf (nodes t u) r)
-
-  abbrev Drops : Bool
-  Drops = isSeen (nodes t u) p k && Loose (findIn (nodes t u) p k)
-
-  no-drop : Shaped t u N → Drops ≡ false → Holds t u N (dropBool (nodes t u) p k)
-  no-drop S e = stays t u N (dropBool (nodes t u) p k) S (case-no Drops (dropName (nodes t u) (findIn (nodes t u) p k)) (nodes t u) e)
-
-  pub drop-unseen : Shaped t u N → not b ≡ true → Holds t u N (dropBool (nodes t u) p k)
-  drop-unseen S e = no-drop S (let q : isSeen (nodes t u) p k ≡ false = sym eb ∙ not-true b e in ap (λ (x : Bool). x && Loose (findIn (nodes t u) p k)) q)
-
-  pub drop-none : (c : ℕ) → Shaped t u N → c ≡ findIn (nodes t u) p k → c ≡ 0 → Holds t u N (dropBool (nodes t u) p k)
-  drop-none c S e z =
-      no-drop S (ap (λ (x : Bool). x && Loose (findIn (nodes t u) p k)) (sym (seen-none (nodes t u) p k c e z)))
-
-  module _ (c v w : ℕ) (e : c ≡ findIn (nodes t u) p k) (cu : c ≤ u) (n : c ≡ 0 → ⊥) (ev : v ≡ nameOf t c) (ew : w ≡ confidenceOf t c) where
-    loose-is : (eqb v code.bool || eqb w rangeConfidence) ≡ Loose (findIn (nodes t u) p k)
-    loose-is =
-        (λ i. eqb (name-is t u c v (omega arith) cu ev i) code.bool || eqb (confidence-is t u c w (omega arith) cu ew i) rangeConfidence)
-        ∙ (λ i. Loose (e i))
-
-    pub drop-held : Shaped t u N → (eqb v code.bool || eqb w rangeConfidence) ≡ false → Holds t u N (dropBool (nodes t u) p k)
-    drop-held S z = no-drop S (let q : Loose (findIn (nodes t u) p k) ≡ false = sym loose-is ∙ z in simp (q, and-false))
-
-    pub drop-loose : (t′ : List ℕ) → not b ≡ false → (eqb v code.bool || eqb w rangeConfidence) ≡ true → Holds t′ u N (dropName (nodes t u) c)
-        → Holds t′ u N (dropBool (nodes t u) p k)
-    drop-loose t′ s z H =
-        let a : isSeen (nodes t u) p k ≡ true = sym eb ∙ not-false b s in
-        let l : Loose (findIn (nodes t u) p k) ≡ true = sym loose-is ∙ z in
-        same-state t′ u N (dropName (nodes t u) c) (dropBool (nodes t u) p k) H
-        (ap (λ (r : ℕ). dropName (nodes t u) r) e ∙ case-yes Drops (dropName (nodes t u) (findIn (nodes t u) p k)) (nodes t u) (λ i. a i && l i))
-
--- a path is found as before
-pub find-drop-name : (s : List Node) (r p k : ℕ) → findIn (dropName s r) p k ≡ findIn s p k
-find-drop-name s r p k = find-update (update s r field.name code.noName) r field.confidence 0 p k ∙ find-update s r field.name code.noName p k
-
-pub find-drop-bool : (s : List Node) (p k : ℕ) → findIn (dropBool s p k) p k ≡ findIn s p k
-find-drop-bool s p k = go (isSeen s p k && (eqb (nodeOf s (findIn s p k) .name) code.bool || isRange (nodeOf s (findIn s p k))))
-  where
-    go : (b : Bool) → findIn (cond b (dropName s (findIn s p k)) s) p k ≡ findIn s p k
-    go true = find-drop-name s (findIn s p k) p k
-    go false = refl
-
-pub drop-room : (t t′ : List ℕ) (u N p k : ℕ) → Holds t′ u N (dropBool (nodes t u) p k) → (findIn (nodes t u) p k ≡ 0 → u < N)
-    → findIn (nodes t′ u) p k ≡ 0 → u < N
-drop-room t t′ u N p k H room z = room (sym (find-drop-bool (nodes t u) p k) ∙ ap (λ (s : List Node). findIn s p k) (sym (H .state)) ∙ z)
-
-pub drop-marked : (t t′ t″ : List ℕ) (u N p k used : ℕ) → Holds t′ u N (dropBool (nodes t u) p k) → Grows u (insertNotBool (nodes t′ u) p k) t″ used N
-    → Grows u (markNotBool (nodes t u) p k) t″ used N
-unfolding markNotBool
-drop-marked t t′ t″ u N p k used H G = record {
-  shaped = G .shaped;
-  state = G .state ∙ ap (λ (s : List Node). insertNotBool s p k) (H .state);
-  range = G .range;
-}

@@ -1,12 +1,12 @@
 -- A formed state stays formed when a name is set or dropped, a mark is set or a hint is cleared. Assumes nothing.
 use Prim.Native.Nat.{ℕ, _≤_, _<_, max}
 use mathlib.Core.Path.{_≡_, refl, sym, ap, _∙_}
-use mathlib.Core.Bool.{Bool, true, false, true≢false, cond, not, _&&_, _||_, and-eq-true-iff}
+use mathlib.Core.Bool.{Bool, true, false, true≢false, cond, _&&_, _||_}
 use mathlib.Core.List.{List}
 use native.Mathlib.Omega.{arith}
 use lib.Dec.{eqb, leb}
 use lib.ListN.{length}
-use borrow.Author.Tests.{eqb-true, ne-eqb, le-leb, leb-true}
+use borrow.Author.Tests.{eqb-false, ne-eqb, le-leb, leb-true}
 use Rattle.limits.specs.Codes as code
 use Rattle.limits.specs.Fields as field
 use Rattle.limits.specs.Limits.{confidenceMax}
@@ -16,16 +16,16 @@ use Rattle.facts.specs.Fact.{isBare, isFact}
 use Rattle.facts.specs.Formed.{Formed}
 use Rattle.facts.proofs.Whole.{fact-parts, parts-fact, bare-zeros}
 use Rattle.paths.specs.Update.{withField, update}
-use Rattle.paths.specs.Find.{findIn}
+use Rattle.paths.specs.Find.{getMut}
 use Rattle.paths.specs.Make.{ensure, getOrCreate}
 use Rattle.paths.proofs.Kept.{length-update, length-seen, made-seen}
 use Rattle.paths.proofs.Reach.{ensure-range}
-use Rattle.paths.proofs.Lookups.{found-node, found-above, ensure-above}
+use Rattle.paths.proofs.Lookups.{found-node, found-above, got-node, ensure-above}
 use Rattle.paths.proofs.Sounds.{flags-parts, parts-flags, formed-ordered, formed-ensure, formed-create, formed-once, formed-twice, formed-cond}
-use Rattle.marks.specs.Names.{isRange, dropName, giveName, isSeen, nameAt, nameMade, setTname, insertNotBool, dropBool, markNotBool}
+use Rattle.marks.specs.Names.{isRange, dropName, giveName, nameAt, nameMade, setTname, insertNotBool, dropBoolAt, dropBool, markNotBool}
 use Rattle.marks.specs.Hints.{clearAt, clearRangeHint}
 use Rattle.marks.proofs.NameLaws.{stops, keeps, bars}
-use Rattle.marks.proofs.Counts.{seen-there, alike-drop-bool}
+use Rattle.marks.proofs.Counts.{alike-drop-bool}
 
 -- one node
 pub name-some : (name : ℕ) → isName name ≡ true → name ≡ code.noName → ⊥
@@ -135,36 +135,32 @@ formed-clear s r block F r1 rs y l =
     formed-cond (isRange (nodeOf s r)) (dropName (update s r field.blocked v) r) (update s r field.blocked v)
     (formed-drop-name (update s r field.blocked v) r G r1 (omega arith)) G
 
+pub formed-drop-bool-at : (s : List Node) (r : ℕ) → Formed s → 1 < r → r ≤ length s → Formed (dropBoolAt s r)
+formed-drop-bool-at s r F r1 rs =
+    formed-cond (eqb (nodeOf s r .name) code.bool || isRange (nodeOf s r)) (dropName s r) s (formed-drop-name s r F r1 rs) F
+
 -- at a path
 module _ (s : List Node) (p k : ℕ) (F : Formed s) (p1 : 1 ≤ p) where
-  found-low : (findIn s p k ≡ 0 → ⊥) → 1 < findIn s p k
-  found-low n = found-above s p k (formed-ordered s F) p1 n
-
-  found-high : (findIn s p k ≡ 0 → ⊥) → findIn s p k ≤ length s
-  found-high n = found-node s p k n .high
+  -- a node that `get_mut` finds is seen and not the root
+  at-got : (f : List Node → ℕ → List Node) → (1 < getMut s p k → getMut s p k ≤ length s → nodeOf s (getMut s p k) .seen ≡ 1 → Formed (f s (getMut s p k)))
+      → Formed (cond (eqb (getMut s p k) 0) s (f s (getMut s p k)))
+  at-got f h = go (eqb (getMut s p k) 0) refl
+    where
+      go : (b : Bool) → eqb (getMut s p k) 0 ≡ b → Formed (cond b s (f s (getMut s p k)))
+      go true e = F
+      go false e =
+          let G = got-node s p k (eqb-false (getMut s p k) 0 e) in
+          let l = found-above s p k (formed-ordered s F) p1 (G .there) in
+          let m = found-node s p k (G .there) .high in
+          let q = G .same in
+          h (omega arith) (omega arith) (G .seen)
 
   pub formed-drop-bool : Formed (dropBool s p k)
-  formed-drop-bool = go (isSeen s p k && loose) refl
-    where
-      loose : Bool
-      loose = eqb (nodeOf s (findIn s p k) .name) code.bool || isRange (nodeOf s (findIn s p k))
-
-      go : (b : Bool) → (isSeen s p k && loose) ≡ b → Formed (cond b (dropName s (findIn s p k)) s)
-      go true e =
-          let n = seen-there s p k (and-eq-true-iff (isSeen s p k) loose .0 e .0) in
-          formed-drop-name s (findIn s p k) F (found-low n) (found-high n)
-      go false e = F
+  formed-drop-bool = at-got dropBoolAt (λ l m y. formed-drop-bool-at s (getMut s p k) F l m)
 
   pub formed-clear-range-hint : (block : ℕ) → block ≤ 1 → Formed (clearRangeHint s p k block)
   unfolding clearRangeHint
-  formed-clear-range-hint block l = go (isSeen s p k) refl
-    where
-      go : (b : Bool) → isSeen s p k ≡ b → Formed (cond b (clearAt s (findIn s p k) block) s)
-      go true e =
-          let n = seen-there s p k e in
-          let y = and-eq-true-iff (not (eqb (findIn s p k) 0)) (eqb (nodeOf s (findIn s p k) .seen) 1) .0 e .1 in
-          formed-clear s (findIn s p k) block F (found-low n) (found-high n) (eqb-true (nodeOf s (findIn s p k) .seen) 1 y) l
-      go false e = F
+  formed-clear-range-hint block b = at-got (λ s r. clearAt s r block) (λ l m y. formed-clear s (getMut s p k) block F l m y b)
 
   module _ (ps : p ≤ length s) where
     pub formed-insert-not-bool : Formed (insertNotBool s p k)

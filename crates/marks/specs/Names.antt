@@ -9,7 +9,7 @@ use Rattle.limits.specs.Fields as field
 use Rattle.limits.specs.Limits.{rangeConfidence}
 use Rattle.facts.specs.State.{Node, nodeOf}
 use Rattle.paths.specs.Update.{update}
-use Rattle.paths.specs.Find.{findIn}
+use Rattle.paths.specs.Find.{findIn, getMut}
 use Rattle.paths.specs.Make.{Made, ensure, getOrCreate}
 
 -- a range name: one of confidence 6
@@ -27,10 +27,6 @@ giveName s r name confidence = update (update s r field.name name) r field.confi
 -- is there such a path, and is it marked not-bool?
 abbrev pub isNotBool : List Node → ℕ → ℕ → Bool
 isNotBool s p k = not (eqb (findIn s p k) 0) && eqb (nodeOf s (findIn s p k) .notBool) 1
-
--- is there such a path, and is it seen?
-abbrev pub isSeen : List Node → ℕ → ℕ → Bool
-isSeen s p k = not (eqb (findIn s p k) 0) && eqb (nodeOf s (findIn s p k) .seen) 1
 
 -- the name at node r, unless "A blocked range name stops", or "An equal or lower one never replaces"
 abbrev pub nameAt : List Node → ℕ → ℕ → ℕ → List Node
@@ -55,12 +51,13 @@ markMade m = update (m .state) (m .number) field.notBool 1
 unfoldable pub insertNotBool : List Node → ℕ → ℕ → List Node
 insertNotBool s p k = markMade (ensure s p k)
 
--- a bool or a range name dropped at a path that is seen
+-- a bool or a range name dropped at node r
+abbrev pub dropBoolAt : List Node → ℕ → List Node
+dropBoolAt s r = cond (eqb (nodeOf s r .name) code.bool || isRange (nodeOf s r)) (dropName s r) s
+
+-- the same at the path, if `get_mut` finds it
 abbrev pub dropBool : List Node → ℕ → ℕ → List Node
-dropBool s p k =
-    cond (isSeen s p k && (eqb (nodeOf s (findIn s p k) .name) code.bool || isRange (nodeOf s (findIn s p k))))
-    (dropName s (findIn s p k))
-    s
+dropBool s p k = cond (eqb (getMut s p k) 0) s (dropBoolAt s (getMut s p k))
 
 -- `mark_not_bool`
 unfoldable pub markNotBool : List Node → ℕ → ℕ → List Node

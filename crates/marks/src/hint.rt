@@ -6,12 +6,11 @@ ghost use Rattle.paths.specs.Shape.{Shaped};
 ghost use Rattle.paths.specs.Holds.{Holds};
 ghost use Rattle.marks.specs.Hints.{clearAt, clearRangeHint, hasRangeHint};
 use crate::name::drop_name;
-use crate::name::is_seen;
 use facts::field;
 use limits::RANGE_CONFIDENCE;
 use limits::fields::BLOCKED;
 use limits::fields::CONFIDENCE;
-use paths::find_child;
+use paths::get_mut;
 use paths::store;
 
 // Clears the hint of record r, and blocks it for good if block is 1.
@@ -37,10 +36,7 @@ pub fn clear_range_hint(table: &mut [u32], n: u32, used: u32, p: u32, k: u32, bl
     requires { ⌜ (1 ≤ p) × (p ≤ used) × (block ≤ 1) ⌝ }
     ensures { λ _. ⌜ Holds (now (table .exit)) used n (clearRangeHint (nodes (now (table .entry)) used) p k block) ⌝ }
 {
-    if !is_seen(table, n, used, p, k) {
-        return;
-    }
-    let c = find_child(table, used, p, k);
+    let c = get_mut(table, n, used, p, k);
     if c == 0 {
         return;
     }
@@ -52,10 +48,7 @@ pub fn has_range_hint(table: &[u32], n: u32, used: u32, p: u32, k: u32) -> bool
     requires { ⌜ (1 ≤ p) × (p ≤ used) ⌝ }
     ensures { λ r. ⌜ r ≡ hasRangeHint (nodes (now (table .entry)) used) p k ⌝ }
 {
-    if !is_seen(table, n, used, p, k) {
-        return false;
-    }
-    let c = find_child(table, used, p, k);
+    let c = get_mut(table, n, used, p, k);
     if c == 0 {
         return false;
     }

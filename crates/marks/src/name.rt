@@ -6,8 +6,9 @@ ghost use Rattle.facts.specs.State.{nodes};
 ghost use Rattle.paths.specs.Shape.{Shaped};
 ghost use Rattle.paths.specs.Find.{findIn};
 ghost use Rattle.paths.specs.Holds.{Holds};
+ghost use Rattle.paths.specs.Place.{Place};
 ghost use Rattle.marks.specs.Grows.{Grows};
-ghost use Rattle.marks.specs.Names.{dropName, giveName, nameAt, isNotBool, isSeen, dropBool, setTname, insertNotBool, markNotBool};
+ghost use Rattle.marks.specs.Names.{dropName, giveName, nameAt, isNotBool, dropBoolAt, setTname, insertNotBool, markNotBool};
 use facts::field;
 use limits::RANGE_CONFIDENCE;
 use limits::codes::BOOL;
@@ -18,8 +19,9 @@ use limits::fields::NAME;
 use limits::fields::NOT_BOOL;
 use limits::fields::SEEN;
 use paths::ensure_child;
-use paths::find_child;
-use paths::get_or_create;
+use paths::find_at;
+use paths::get_or_create_after;
+use paths::place;
 use paths::store;
 
 pub fn give_name(table: &mut [u32], n: u32, used: u32, r: u32, name: u32, confidence: u32)
@@ -58,33 +60,20 @@ fn name_at(table: &mut [u32], n: u32, used: u32, r: u32, name: u32, confidence: 
     give_name(table, n, used, r, name, confidence);
 }
 
-// Is there such a path, and is it marked not-bool?
-fn is_not_bool(table: &[u32], n: u32, used: u32, p: u32, k: u32) -> bool
+// Is there such a path, whose place in its chain is that one, and is it marked not-bool?
+fn is_not_bool(table: &[u32], n: u32, used: u32, p: u32, k: u32, prev: u32, next: u32) -> bool
     requires { ⌜ Shaped (now table) used n ⌝ }
-    requires { ⌜ (1 ≤ p) × (p ≤ used) ⌝ }
+    requires { ⌜ (1 ≤ p) × Place (now table) used p k prev next ⌝ }
     ensures { λ r. ⌜ r ≡ isNotBool (nodes (now (table .entry)) used) p k ⌝ }
 {
-    let c = find_child(table, used, p, k);
+    let c = find_at(table, used, p, k, prev, next);
     if c == 0 {
         return false;
     }
     field(table, c, NOT_BOOL) == 1
 }
 
-// Is there such a path, and is it seen?
-pub fn is_seen(table: &[u32], n: u32, used: u32, p: u32, k: u32) -> bool
-    requires { ⌜ Shaped (now table) used n ⌝ }
-    requires { ⌜ (1 ≤ p) × (p ≤ used) ⌝ }
-    ensures { λ r. ⌜ r ≡ isSeen (nodes (now (table .entry)) used) p k ⌝ }
-{
-    let c = find_child(table, used, p, k);
-    if c == 0 {
-        return false;
-    }
-    field(table, c, SEEN) == 1
-}
-
-// Sets a name at the path of p with the key k at its end, and answers how many records are used then.
+// Sets a name at the path of p with the key k at its end, and answers how many records are used then. The chain is walked once.
 pub fn set_tname(
     table: &mut [u32],
     n: u32,
@@ -99,12 +88,14 @@ pub fn set_tname(
     requires { ⌜ (findIn (nodes (now table) used) p k ≡ 0 → used < n) ⌝ }
     ensures { λ r. ⌜ Grows used (setTname (nodes (now (table .entry)) used) p k name confidence) (now (table .exit)) r n ⌝ }
 {
+    let spot = place(table, used, p, k, 0);
+    let prev = spot.prev;
     if (name == BOOL) | (confidence == RANGE_CONFIDENCE) {
-        if is_not_bool(table, n, used, p, k) {
+        if is_not_bool(table, n, used, p, k, prev, spot.next) {
             return used;
         }
     }
-    let m = get_or_create(table, n, used, p, k);
+    let m = get_or_create_after(table, n, used, p, k, prev);
     let reached = m.used;
     name_at(table, n, reached, m.number, name, confidence);
     reached
@@ -123,31 +114,30 @@ pub fn insert_not_bool(table: &mut [u32], n: u32, used: u32, p: u32, k: u32) -> 
     reached
 }
 
-// A bool or a range name dropped at a path that is seen.
-fn drop_bool(table: &mut [u32], n: u32, used: u32, p: u32, k: u32)
+// A bool or a range name dropped at record r.
+fn drop_bool(table: &mut [u32], n: u32, used: u32, r: u32)
     requires { ⌜ Shaped (now table) used n ⌝ }
-    requires { ⌜ (1 ≤ p) × (p ≤ used) ⌝ }
-    ensures { λ _. ⌜ Holds (now (table .exit)) used n (dropBool (nodes (now (table .entry)) used) p k) ⌝ }
+    requires { ⌜ (1 ≤ r) × (r ≤ used) ⌝ }
+    ensures { λ _. ⌜ Holds (now (table .exit)) used n (dropBoolAt (nodes (now (table .entry)) used) r) ⌝ }
 {
-    if !is_seen(table, n, used, p, k) {
-        return;
-    }
-    let c = find_child(table, used, p, k);
-    if c == 0 {
-        return;
-    }
-    if (field(table, c, NAME) == BOOL) | (field(table, c, CONFIDENCE) == RANGE_CONFIDENCE) {
-        drop_name(table, n, used, c);
+    if (field(table, r, NAME) == BOOL) | (field(table, r, CONFIDENCE) == RANGE_CONFIDENCE) {
+        drop_name(table, n, used, r);
     }
 }
 
-// Marks the path not-bool, and drops a bool or a range name there.
+// Marks the path not-bool, and drops a bool or a range name there. The path is made first, so that it is looked up once: a new one is unseen.
 pub fn mark_not_bool(table: &mut [u32], n: u32, used: u32, p: u32, k: u32) -> u32
     requires { ⌜ Shaped (now table) used n ⌝ }
     requires { ⌜ (1 ≤ p) × (p ≤ used) × (n ≤ recordsMax) ⌝ }
     requires { ⌜ (findIn (nodes (now table) used) p k ≡ 0 → used < n) ⌝ }
     ensures { λ r. ⌜ Grows used (markNotBool (nodes (now (table .entry)) used) p k) (now (table .exit)) r n ⌝ }
 {
-    drop_bool(table, n, used, p, k);
-    insert_not_bool(table, n, used, p, k)
+    let m = ensure_child(table, n, used, p, k);
+    let reached = m.used;
+    let r = m.number;
+    if field(table, r, SEEN) == 1 {
+        drop_bool(table, n, reached, r);
+    }
+    store(table, n, reached, r, NOT_BOOL, 1);
+    reached
 }

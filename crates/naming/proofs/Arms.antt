@@ -21,7 +21,6 @@ use Rattle.code.specs.declared.Place.{Place}
 use Rattle.code.specs.declared.Place.the-variants.{At, Nowhere}
 use Rattle.facts.specs.State.{Node}
 use Rattle.labels.specs.declared.Val.{Val}
-use Rattle.labels.specs.declared.Label.{Label}
 use Rattle.labels.specs.declared.Label.the-variants.{Arg}
 use Rattle.labels.specs.declared.Mask.{Mask}
 use Rattle.labels.specs.declared.Mask.the-variants.{Unmasked, Masked}
@@ -30,14 +29,10 @@ use Rattle.labels.specs.declared.Step.{Step}
 use Rattle.labels.specs.declared.Choice.{Choice}
 use Rattle.labels.specs.declared.Choice.the-variants.{Chosen, Neither}
 use Rattle.labels.specs.Operands.{isAny, isUnmasked, choose, sameArg}
-use Rattle.labels.proofs.Choosing.{on-arg, on-none, plain-is}
+use Rattle.labels.proofs.Choosing.{NoArg, on-arg, on-none, plain-is}
 use Rattle.analyze.specs.Machine.{named, markedNamed}
 use Rattle.analyze.specs.Length.{isPlace}
 use Rattle.analyze.specs.Name.{call, mstore8, widthName, shrNamed, shr, signedFirst, signed, eqMasked, eqBoth, eq, signExtend, byte}
-
--- no such label
-abbrev pub NoArg : Label → Type 0
-NoArg l = (v : Val) → l ≡ Arg v → ⊥
 
 -- CALL and its kin, MSTORE8, BYTE: an argument, or none
 module _ (s : List Node) (x : Step) where

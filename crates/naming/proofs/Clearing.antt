@@ -16,10 +16,9 @@ use Rattle.labels.specs.declared.Label.{Label}
 use Rattle.labels.specs.declared.Label.the-variants.{Arg}
 use Rattle.labels.specs.declared.Step.{Step}
 use Rattle.labels.specs.Operands.{isArg}
-use Rattle.labels.proofs.Choosing.{on-arg, on-none}
+use Rattle.labels.proofs.Choosing.{NoArg, on-arg, on-none}
 use Rattle.analyze.specs.Phases.{clearOperand, comparesWords, clearOperands, clearHints}
 use Rattle.args.proofs.Flow.{after, becomes}
-use Rattle.naming.proofs.Arms.{NoArg}
 
 pub is-no-arg : (l : Label) → NoArg l → false ≡ isArg l
 is-no-arg l n = on-none l (λ v. true) false n

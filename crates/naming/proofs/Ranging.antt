@@ -32,14 +32,13 @@ use Rattle.labels.specs.declared.Label.the-variants.{Unlabelled, CallData, Arg,
 use Rattle.labels.specs.declared.Step.{Step}
 use Rattle.labels.specs.Operands.{onArg, isUnlabelled, isUnmasked}
 use Rattle.labels.proofs.Label.{the-type}
-use Rattle.labels.proofs.Choosing.{on-arg, on-none}
+use Rattle.labels.proofs.Choosing.{NoArg, on-arg, on-none}
 use Rattle.analyze.specs.declared.Comparison.{Comparison}
 use Rattle.analyze.specs.declared.Comparison.the-variants.{Of, Nothing}
 use Rattle.analyze.specs.Machine.{named}
 use Rattle.analyze.specs.Ready.{Ready, Reaches, LabelReaches, StepReaches}
 use Rattle.analyze.specs.Phases.{ranges, rangeNamed, comparisonOf, rangesBy, rangeRule, rangedBy, rangeFacts}
 use Rattle.args.proofs.Flow.{room, named-grows, holds-size, reaches-next, after, grown}
-use Rattle.naming.proofs.Arms.{NoArg}
 
 pub labelled : (l : Label) → OneOf (1 ∷ 2 ∷ 3 ∷ []) (tagOf the-type l) → false ≡ isUnlabelled l
 labelled Unlabelled h =

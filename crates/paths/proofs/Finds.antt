@@ -9,12 +9,12 @@ use native.Mathlib.Nat.{eq-or-lt-of-le}
 use native.Mathlib.Decide.{ℕ-discrete}
 use lib.Dec.{eqb}
 use borrow.Author.Tests.{eqb-true, eqb-false, eq-eqb, ne-eqb}
-use Rattle.facts.specs.Table.{keyOf, parentOf}
+use Rattle.facts.specs.Table.{keyOf, parentOf, seenOf}
 use Rattle.facts.specs.Links.{Kid, Linked}
 use Rattle.facts.specs.State.{Node, nodes, nodeOf, bare}
 use Rattle.facts.proofs.Encode.{length-nodes, nodes-get}
 use Rattle.paths.specs.Shape.{Shaped}
-use Rattle.paths.specs.Find.{findTo, findIn}
+use Rattle.paths.specs.Find.{findTo, findIn, getMut}
 use Rattle.paths.specs.Make.{ensure, missing}
 use Rattle.paths.specs.Holds.{Holds, Makes}
 use Rattle.paths.proofs.Walk.{Found}
@@ -86,6 +86,28 @@ module _ (t : List ℕ) (u p k : ℕ) (L : Linked t u) (Z : parentOf t 1 ≡ 0) 
 
   pub absent : findIn (nodes t u) p k ≡ 0 → Absent t u p k
   absent z = record { none = λ s K e. find-in .none z s K e }
+
+-- a path that is not there, one that is seen and one that is not
+module _ (t : List ℕ) (u p k r : ℕ) (e : r ≡ findIn (nodes t u) p k) (ru : r ≤ u) where
+  pub get-none : r ≡ 0 → 0 ≡ getMut (nodes t u) p k
+  unfolding getMut
+  get-none z = go (eqb (nodeOf (nodes t u) (findIn (nodes t u) p k) .seen) 1)
+    where
+      go : (b : Bool) → 0 ≡ cond b (findIn (nodes t u) p k) 0
+      go true = sym z ∙ e
+      go false = refl
+
+  module _ (n : r ≡ 0 → ⊥) (v : ℕ) (ev : v ≡ seenOf t r) where
+    seen-told : v ≡ nodeOf (nodes t u) (findIn (nodes t u) p k) .seen
+    seen-told = ev ∙ ap (λ (x : Node). x .seen) (sym (nodes-get t u r (omega arith) ru)) ∙ ap (λ (q : ℕ). nodeOf (nodes t u) q .seen) e
+
+    pub get-seen : v ≡ 1 → r ≡ getMut (nodes t u) p k
+    unfolding getMut
+    get-seen z = rw (eq-eqb (nodeOf (nodes t u) (findIn (nodes t u) p k) .seen) 1 (sym seen-told ∙ z)) e
+
+    pub get-unseen : (v ≡ 1 → ⊥) → 0 ≡ getMut (nodes t u) p k
+    unfolding getMut
+    get-unseen z = rw (ne-eqb (nodeOf (nodes t u) (findIn (nodes t u) p k) .seen) 1 (λ q. z (seen-told ∙ q))) refl
 
 pub missing-none : (s : List Node) (p k r : ℕ) → r ≡ findIn s p k → r ≡ 0 → 1 ≡ missing s p k
 unfolding missing

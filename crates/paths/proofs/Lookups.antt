@@ -13,7 +13,7 @@ use lib.ListN.{length, length-append}
 use borrow.Author.Tests.{eqb-true, eqb-false, eq-eqb, ne-eqb}
 use Rattle.facts.specs.State.{Node, bare, nodeOf}
 use Rattle.paths.specs.Update.{update}
-use Rattle.paths.specs.Find.{findTo, findIn}
+use Rattle.paths.specs.Find.{findTo, findIn, getMut}
 use Rattle.paths.specs.Make.{Made, ensure, makeSeen, getOrCreate}
 use Rattle.paths.specs.Order.{Ordered}
 use Rattle.paths.proofs.Reach.{Named, find-named, add-node, last-node}
@@ -38,6 +38,24 @@ found-above s p k O p1 n =
     (λ (q : 1 ≡ findIn s p k). let z = ap (λ (x : ℕ). nodeOf s x .parent) q in let w = O .root in let y = N .parent in absurd (omega arith))
     (λ (l : 1 < findIn s p k). l)
     (eq-or-lt-of-le (N .low))
+
+-- what `get_mut` finds is the path's node, and seen
+pub record Got (s : List Node) (p k : ℕ) : Type 0 where
+  pub there : findIn s p k ≡ 0 → ⊥
+  pub same : getMut s p k ≡ findIn s p k
+  pub seen : nodeOf s (getMut s p k) .seen ≡ 1
+
+pub got-node : (s : List Node) (p k : ℕ) → (getMut s p k ≡ 0 → ⊥) → Got s p k
+unfolding getMut
+got-node s p k = go (eqb (nodeOf s (findIn s p k) .seen) 1) refl
+  where
+    go : (b : Bool) → eqb (nodeOf s (findIn s p k) .seen) 1 ≡ b → (cond b (findIn s p k) 0 ≡ 0 → ⊥) → Got s p k
+    go true e n = record {
+      there = n;
+      same = rw e refl;
+      seen = rw e (eqb-true (nodeOf s (findIn s p k) .seen) 1 e);
+    }
+    go false e n = absurd (n refl)
 
 -- where none is found there is none
 none-to : (s : List Node) (p k n : ℕ) → findTo s p k n ≡ 0 → (r : ℕ) → 1 ≤ r → r ≤ n → nodeOf s r .parent ≡ p → nodeOf s r .key ≡ k → ⊥
@@ -120,6 +138,19 @@ find-created s p k = find-seen (ensure s p k .state) (ensure s p k .number) p k 
 pub ensure-there : (s : List Node) (p k : ℕ) → (findIn s p k ≡ 0 → ⊥) → ensure s p k ≡ record { state = s; number = findIn s p k }
 unfolding ensure
 ensure-there s p k n = rw (ne-eqb (findIn s p k) 0 n) refl
+
+-- a path that is not there: a bare node is added
+pub ensure-new : (s : List Node) (p k : ℕ) → findIn s p k ≡ 0 → ensure s p k ≡ record { state = s ++ bare p k ∷ []; number = length s + 1 }
+unfolding ensure
+ensure-new s p k z = rw (eq-eqb (findIn s p k) 0 z) refl
+
+pub got-none : (s : List Node) (p k : ℕ) → findIn s p k ≡ 0 → getMut s p k ≡ 0
+unfolding getMut
+got-none s p k z = go (eqb (nodeOf s (findIn s p k) .seen) 1)
+  where
+    go : (b : Bool) → cond b (findIn s p k) 0 ≡ 0
+    go true = z
+    go false = refl
 
 -- the number that is made is never the root's
 pub ensure-above : (s : List Node) (p k : ℕ) → Ordered s → 1 ≤ p → 1 < ensure s p k .number

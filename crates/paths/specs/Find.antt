@@ -1,5 +1,5 @@
--- Looking a path up, as the Rust's `get_mut` does by one key: the path of p with the key k at its end. "Children of one record form a chain through next,
--- keys strictly rising", so there is one at most. Assumes nothing: these are definitions.
+-- Looking a path up: the path of p with the key k at its end, seen or not, and seen only, as the Rust's `get_mut` does. "Children of one record form a chain
+-- through next, keys strictly rising", so there is one at most. Assumes nothing: these are definitions.
 use Prim.Native.Nat.{ℕ, zero, suc}
 use mathlib.Core.Bool.{cond, _&&_}
 use mathlib.Core.List.{List}
@@ -15,3 +15,7 @@ findTo s p k (suc n) = cond (eqb (nodeOf s (suc n) .parent) p && eqb (nodeOf s (
 -- the same among all nodes
 unfoldable pub findIn : List Node → ℕ → ℕ → ℕ
 findIn s p k = findTo s p k (length s)
+
+-- `get_mut`: "A record that isn't seen is no node of `Info`", so the number of the seen node with the parent p and the key k, 0 without one
+unfoldable pub getMut : List Node → ℕ → ℕ → ℕ
+getMut s p k = cond (eqb (nodeOf s (findIn s p k) .seen) 1) (findIn s p k) 0

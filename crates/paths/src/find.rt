@@ -4,12 +4,14 @@ ghost use Prim.Native.Nat.{_≤_};
 ghost use Rattle.facts.specs.Table.{parentOf};
 ghost use Rattle.facts.specs.Links.{Linked};
 ghost use Rattle.facts.specs.State.{nodes};
-ghost use Rattle.paths.specs.Find.{findIn};
+ghost use Rattle.paths.specs.Find.{findIn, getMut};
 ghost use Rattle.paths.specs.Make.{missing};
+ghost use Rattle.paths.specs.Shape.{Shaped};
 use facts::field;
 use limits::fields::CHILD;
 use limits::fields::KEY;
 use limits::fields::NEXT;
+use limits::fields::SEEN;
 
 // The child of parent with that key, 0 if there is none: a walk of one chain, up to the first key that is not lower.
 pub fn find_child(table: &[u32], used: u32, parent: u32, key: u32) -> u32
@@ -28,6 +30,22 @@ pub fn find_child(table: &[u32], used: u32, parent: u32, key: u32) -> u32
             return 0;
         }
         c = field(table, c, NEXT);
+    }
+    0
+}
+
+// The Rust's `get_mut`: the child of p with the key k if it is seen, 0 if there is none such.
+pub fn get_mut(table: &[u32], n: u32, used: u32, p: u32, k: u32) -> u32
+    requires { ⌜ Shaped (now table) used n ⌝ }
+    requires { ⌜ (1 ≤ p) × (p ≤ used) ⌝ }
+    ensures { λ r. ⌜ (r ≡ getMut (nodes (now (table .entry)) used) p k) × (r ≤ used) ⌝ }
+{
+    let c = find_child(table, used, p, k);
+    if c == 0 {
+        return 0;
+    }
+    if field(table, c, SEEN) == 1 {
+        return c;
     }
     0
 }

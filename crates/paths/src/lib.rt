@@ -8,6 +8,7 @@ mod seen;
 
 pub use depth::depth_of;
 pub use find::find_child;
+pub use find::get_mut;
 pub use find::missing;
 pub use insert::Spot;
 pub use insert::find_at;

@@ -19,9 +19,9 @@ use Rattle.paths.proofs.Reach.{length-ensure, length-create}
 use Rattle.paths.proofs.Finds.{missing-some}
 use Rattle.paths.proofs.Lookups.{none-found}
 use Rattle.paths.proofs.Adds.{adds-ensure, adds-missing, adds-missing-else, same-missing}
-use Rattle.marks.specs.Names.{isSeen, markNotBool}
+use Rattle.marks.specs.Names.{markNotBool}
 use Rattle.marks.specs.Hints.{hasRangeHint}
-use Rattle.marks.proofs.Counts.{adds-mark-not-bool, adds-set-tname, length-mark-not-bool, length-set-tname, length-insert-not-bool, seen-there}
+use Rattle.marks.proofs.Counts.{adds-mark-not-bool, adds-set-tname, length-mark-not-bool, length-set-tname, length-insert-not-bool, hint-there}
 use Rattle.kinds.proofs.Counts.{same-set-dynamic, length-set-dynamic}
 use Rattle.labels.specs.declared.Val.{Val}
 use Rattle.labels.specs.declared.Label.{Label}
@@ -115,14 +115,10 @@ grown-length s path other =
 
 -- a range name that stands is of a path that is there
 pub grown-unless : (s : List Node) (v : Val) → Grown s (ofVal v) (unlessRange s v)
-unfolding hasRangeHint
 grown-unless s v = go (hasRangeHint s (v .path) (v .offset)) refl
   where
     go : (b : Bool) → hasRangeHint s (v .path) (v .offset) ≡ b → length (cond b s (marked s v)) ≡ length s + missing s (v .path) (v .offset)
-    go true e = let z = there e in omega arith
-      where
-        there : hasRangeHint s (v .path) (v .offset) ≡ true → 0 ≡ missing s (v .path) (v .offset)
-        there e = missing-some s (v .path) (v .offset) _ refl (seen-there s (v .path) (v .offset) (and-eq-true-iff (isSeen s (v .path) (v .offset)) _ .0 e .0))
+    go true e = let z = missing-some s (v .path) (v .offset) _ refl (hint-there s (v .path) (v .offset) e) in omega arith
     go false e = grown-marked s v
 
 -- a load that is followed

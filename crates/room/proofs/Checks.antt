@@ -1,6 +1,6 @@
 -- What the arms make that first check something. Assumes nothing.
 use Prim.Native.Nat.{ℕ, _-_}
-use mathlib.Core.Path.{_≡_, refl, sym, ap, _∙_}
+use mathlib.Core.Path.{_≡_, sym, ap, _∙_}
 use mathlib.Core.Bool.{Bool, true, false, not, cond, _&&_}
 use mathlib.Core.List.{List}
 use lib.Dec.{eqb, ltb}
@@ -19,32 +19,16 @@ use Rattle.labels.specs.declared.Mask.{Mask}
 use Rattle.labels.specs.declared.Mask.the-variants.{Unmasked, Masked}
 use Rattle.labels.specs.declared.Step.{Step}
 use Rattle.labels.specs.Operands.{onArg, isUnmasked, isPlain, sameArg}
-use Rattle.labels.proofs.Choosing.{on-arg, on-none, on-zero, plain-is}
+use Rattle.labels.proofs.Choosing.{NoArg, on-no-zero, on-arg, on-none, on-zero, plain-is}
 use Rattle.analyze.specs.Length.{isPlace}
 use Rattle.analyze.specs.Load.{isWholeWord, isFollowed, followedOffset}
 use Rattle.analyze.specs.Name.{widthName}
-use Rattle.naming.proofs.Arms.{NoArg}
+use Rattle.loads.proofs.Plain.{unfollowed, told}
 use Rattle.room.specs.declared.Touched.{Touched}
 use Rattle.room.specs.declared.Touched.the-variants.{Nothing, One}
 use Rattle.room.specs.Touched.{ofVal, ifSo, ofLoad, ofShr, ofMasked, ofEq, ofIsZero, ofExtend}
-use Rattle.room.proofs.Labelled.{on-no-zero}
 
 -- a load without a label: o is its offset, 0 where it is not followed
-unfollowed : (m o : ℕ) → o ≡ followedOffset m → o ≡ 0 → isFollowed m ≡ false
-unfolding isFollowed
-unfollowed m o e z = go (isFollowed m) refl (sym e ∙ z)
-  where
-    go : (b : Bool) → isFollowed m ≡ b → cond b m 0 ≡ 0 → b ≡ false
-    go true q w = sym q ∙ ap isFollowed w
-    go false q w = refl
-
-followed : (m o : ℕ) → o ≡ followedOffset m → (o ≡ 0 → ⊥) → (isFollowed m ≡ true) × (o ≡ m)
-followed m o e n = go (isFollowed m) e
-  where
-    go : (b : Bool) → o ≡ cond b m 0 → (b ≡ true) × (o ≡ m)
-    go true w = (refl, w)
-    go false w = absurd (n w)
-
 module _ (x : Step) where
   abbrev offset : ℕ
   offset = valueOf (x .first .word)
@@ -58,7 +42,7 @@ module _ (x : Step) where
     load-left z = load-by false (unfollowed offset o e z)
 
     pub load-made : (o ≡ 0 → ⊥) → One 1 (o - selectorBytes) ≡ ofLoad x
-    load-made z = ap (λ (k : ℕ). One 1 (k - selectorBytes)) (followed offset o e z .1) ∙ load-by true (followed offset o e z .0)
+    load-made z = ap (λ (k : ℕ). One 1 (k - selectorBytes)) (told offset o e z .1) ∙ load-by true (told offset o e z .0)
 
   module _ (v : Val) (e : x .first .label ≡ Arg v) (b : Bool) (eb : b ≡ isWholeWord (v .«add_val»)) where
     labelled-by : (c : Bool) → b ≡ c → ifSo c (ofVal v) ≡ ofLoad x

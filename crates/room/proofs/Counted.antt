@@ -222,7 +222,7 @@ module _ (m : Machine) where
       shifted v n = pick v n (eqb n 0)
 
 -- two machines' arms, opcode by opcode
-opcode-both : {A B : Type 0} (R : A → B → Type 0) (op : ℕ) (a : Arms A) (b : Arms B) →
+pub opcode-both : {A B : Type 0} (R : A → B → Type 0) (op : ℕ) (a : Arms A) (b : Arms B) →
     R (a .load) (b .load) → R (a .call) (b .call) → R (a .add) (b .add) → R (a .shl) (b .shl) → R (a .mul) (b .mul) → R (a .compare) (b .compare) →
     R (a .mstore8) (b .mstore8) → R (a .shr) (b .shr) → R (a .signed) (b .signed) → R (a .and) (b .and) → R (a .eq) (b .eq) → R (a .isZero) (b .isZero) →
     R (a .signExtend) (b .signExtend) → R (a .byte) (b .byte) → R (a .mload) (b .mload) → R (a .other) (b .other) → R (byOpcode op a) (byOpcode op b)

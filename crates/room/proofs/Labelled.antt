@@ -1,42 +1,20 @@
 -- What a label, a choice or a comparison makes, by what it says. Assumes nothing.
 use Prim.Native.Nat.{ℕ}
-use mathlib.Core.Path.{_≡_, refl, sym, ap, subst, _∙_}
+use mathlib.Core.Path.{_≡_, sym, ap, _∙_}
 use mathlib.Core.Bool.{Bool}
-use mathlib.Core.List.{[], _∷_}
-use mathlib.Core.Logic.{⊎-elim}
-use native.Mathlib.Omega.{arith}
-use denote.Enum.Declared.{tagOf}
-use types.Run.{OneOf}
 use Rattle.word.specs.declared.U256.{U256}
 use Rattle.labels.specs.declared.Val.{Val}
 use Rattle.labels.specs.declared.Label.{Label}
-use Rattle.labels.specs.declared.Label.the-variants.{Unlabelled, CallData, Arg, IsZeroResult}
+use Rattle.labels.specs.declared.Label.the-variants.{Arg}
 use Rattle.labels.specs.declared.Element.{Element}
 use Rattle.labels.specs.declared.Choice.{Choice}
 use Rattle.labels.specs.declared.Choice.the-variants.{Chosen}
-use Rattle.labels.specs.Operands.{onZeroTest}
-use Rattle.labels.proofs.Label.{the-type}
-use Rattle.labels.proofs.Choosing.{on-arg, on-none}
+use Rattle.labels.proofs.Choosing.{NoArg, on-arg, on-none}
 use Rattle.analyze.specs.declared.Comparison.{Comparison}
 use Rattle.analyze.specs.declared.Comparison.the-variants.{Of}
-use Rattle.naming.proofs.Arms.{NoArg}
 use Rattle.room.specs.declared.Touched.{Touched}
 use Rattle.room.specs.declared.Touched.the-variants.{Nothing, One, Two}
 use Rattle.room.specs.Touched.{ofVal, ofLabel, ofChoice, ofLength, ofComparison}
-
--- a label of another kind is no zero test
-pub not-zero : (l : Label) → OneOf (0 ∷ 1 ∷ 2 ∷ []) (tagOf the-type l) → (v : Val) → l ≡ IsZeroResult v → ⊥
-not-zero l h v e =
-    ⊎-elim
-    (λ (q : 3 ≡ 0). omega (arith, q))
-    (⊎-elim (λ (q : 3 ≡ 1). omega (arith, q)) (λ (q : 3 ≡ 2). omega (arith, q)))
-    (subst (λ (x : Label). OneOf (0 ∷ 1 ∷ 2 ∷ []) (tagOf the-type x)) e h)
-
-pub on-no-zero : {A : Type 0} (l : Label) (f : Val → A) (d : A) → ((v : Val) → l ≡ IsZeroResult v → ⊥) → d ≡ onZeroTest l f d
-on-no-zero Unlabelled f d n = refl
-on-no-zero CallData f d n = refl
-on-no-zero (Arg v) f d n = refl
-on-no-zero (IsZeroResult v) f d n = absurd (n v refl)
 
 module _ (l : Label) where
   pub label-none : NoArg l → Nothing ≡ ofLabel l

@@ -16,12 +16,11 @@ use Rattle.labels.specs.declared.Step.{Step}
 use Rattle.labels.specs.declared.Choice.{Choice}
 use Rattle.labels.specs.declared.Choice.the-variants.{Chosen, Neither}
 use Rattle.labels.specs.Operands.{isAny, isLength, isPlainLength, choose}
-use Rattle.labels.proofs.Choosing.{on-arg, on-none}
+use Rattle.labels.proofs.Choosing.{NoArg, on-arg, on-none}
 use Rattle.analyze.specs.declared.Comparison.{Comparison}
 use Rattle.analyze.specs.Arms.{byOpcode}
 use Rattle.analyze.specs.Phases.{comparisonOf, rangeRule, activeAfter}
 use Rattle.analyze.proofs.Dispatch.{either-way}
-use Rattle.naming.proofs.Arms.{NoArg}
 use Rattle.room.specs.declared.Touched.{Touched}
 use Rattle.room.specs.declared.Touched.the-variants.{Nothing, One, Two}
 use Rattle.room.specs.Touched.{ofVal, ifSo, ofChoice, ofAdd, ofLength, ofMul, ofShl, ofCompared, ofCompare, ofArms, ofArm, ofComparison, touchedBy}

@@ -1,7 +1,7 @@
 -- What a step makes continues used records, since its labels do. Assumes nothing.
 use Prim.Native.Nat.{ℕ, _-_, _≤_}
 use mathlib.Core.Path.{_≡_, refl}
-use mathlib.Core.Bool.{Bool, true, false, not, cond, _&&_, _||_}
+use mathlib.Core.Bool.{Bool, true, false, not, cond, _&&_}
 use mathlib.Core.List.{List}
 use native.Mathlib.Omega.{arith}
 use lib.Dec.{eqb, ltb}
@@ -9,8 +9,7 @@ use Rattle.limits.specs.Codes.{noName}
 use Rattle.limits.specs.Limits.{wordBytes, selectorBytes}
 use Rattle.word.specs.Value.{valueOf}
 use Rattle.mask.specs.Mask.{andMaskToType}
-use Rattle.opcode.specs.Opcode.{ADD, MUL, SDIV, SMOD, SIGNEXTEND, LT, GT, EQ, ISZERO, AND, BYTE, SHL, SHR, CALLDATALOAD, CALLDATACOPY, MLOAD, MSTORE8}
-use Rattle.opcode.specs.Lists.{listed, calls}
+use Rattle.opcode.specs.Opcode.{LT}
 use Rattle.code.specs.Guard.{guardFailurePc, isDivisionCheck}
 use Rattle.labels.specs.declared.Val.{Val}
 use Rattle.labels.specs.declared.Label.{Label}
@@ -31,6 +30,7 @@ use Rattle.analyze.specs.Phases.{comparisonOf, rangeRule, activeAfter}
 use Rattle.analyze.specs.Ready.{Reaches, LabelReaches, StepReaches, ChoiceReaches}
 use Rattle.args.proofs.Flow.{choice-reaches}
 use Rattle.naming.proofs.Ranging.{ranged-reaches}
+use Rattle.room.proofs.Counted.{opcode-both}
 use Rattle.room.specs.declared.Touched.{Touched}
 use Rattle.room.specs.declared.Touched.the-variants.{Nothing, One}
 use Rattle.room.specs.Touched.{ofVal, ifSo, ofLabel, ofChoice, ofLoad, ofAdd, ofLength, ofMul, ofShl, ofCompared, ofCompare, ofShr, ofMasked, ofEq, ofIsZero, ofExtend, ofArm, ofComparison, touchedBy, TouchedReaches}
@@ -43,23 +43,8 @@ cases P false s t S T = T
 -- at each opcode
 every : {A : Type 0} (P : A → Type 0) (op : ℕ) (a : Arms A) → P (a .load) → P (a .call) → P (a .add) → P (a .shl) → P (a .mul) → P (a .compare) → P (a .mstore8) →
     P (a .shr) → P (a .signed) → P (a .and) → P (a .eq) → P (a .isZero) → P (a .signExtend) → P (a .byte) → P (a .mload) → P (a .other) → P (byOpcode op a)
-unfolding byOpcode
 every P op a load call add shl mul compare mstore8 shr signed and eq isZero signExtend byte mload other =
-    cases P (eqb op CALLDATALOAD || eqb op CALLDATACOPY) _ _ load
-    (cases P (listed op calls) _ _ call
-    (cases P (eqb op ADD) _ _ add
-    (cases P (eqb op SHL) _ _ shl
-    (cases P (eqb op MUL) _ _ mul
-    (cases P (eqb op LT || eqb op GT) _ _ compare
-    (cases P (eqb op MSTORE8) _ _ mstore8
-    (cases P (eqb op SHR) _ _ shr
-    (cases P (eqb op SDIV || eqb op SMOD) _ _ signed
-    (cases P (eqb op AND) _ _ and
-    (cases P (eqb op EQ) _ _ eq
-    (cases P (eqb op ISZERO) _ _ isZero
-    (cases P (eqb op SIGNEXTEND) _ _ signExtend
-    (cases P (eqb op BYTE) _ _ byte
-    (cases P (eqb op MLOAD) _ _ mload other))))))))))))))
+    opcode-both (λ x y. P x) op a a load call add shl mul compare mstore8 shr signed and eq isZero signExtend byte mload other
 
 module _ (u : ℕ) where
   abbrev Reached : Touched → Type 0

@@ -16,7 +16,6 @@ use Rattle.labels.specs.declared.Val.{Val}
 use Rattle.labels.specs.declared.Label.{Label}
 use Rattle.labels.specs.declared.Mask.{Mask}
 use Rattle.labels.specs.declared.Mask.the-variants.{Unmasked, Masked}
-use Rattle.labels.specs.declared.Element.{Element}
 use Rattle.labels.specs.declared.Step.{Step}
 use Rattle.labels.specs.declared.Choice.{Choice}
 use Rattle.labels.specs.declared.Choice.the-variants.{Chosen, Neither}
@@ -136,7 +135,7 @@ ofComparison (Of v bound lessThan) = ofVal v
 unfoldable pub touchedBy : Bool → List ℕ → Step → Touched
 touchedBy active bytes x = cond (rangeRule active bytes x) (ofComparison (comparisonOf x)) (ofArm (activeAfter active x) bytes x)
 
--- how many of the paths are missing; "equal labels in ADD need one record, not two"
+-- how many of the paths are missing (reading: "equal labels in ADD need one record, not two")
 abbrev pub addedBy : List Node → Touched → ℕ
 addedBy s touched.Nothing = 0
 addedBy s (touched.One p k) = missing s p k

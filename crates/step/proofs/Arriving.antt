@@ -1,7 +1,7 @@
 -- Questions 1 and 2: what each answer of the code says of the outcome. Assumes nothing.
 use Prim.Native.Nat.{ℕ, _≤_, _<_}
 use mathlib.Core.Path.{_≡_, refl, sym, subst, _∙_}
-use mathlib.Core.Bool.{Bool, true, false, not, true≢false}
+use mathlib.Core.Bool.{Bool, true, false, not}
 use mathlib.Core.List.{List}
 use native.Mathlib.Omega.{arith}
 use lib.ListN.{length}
@@ -9,22 +9,9 @@ use Rattle.facts.specs.declared.Records.{Records}
 use Rattle.facts.specs.declared.Records.the-variants.{Count, Unfit}
 use Rattle.facts.specs.Count.{recordCount, Counted}
 use Rattle.facts.specs.Sound.{Sound, Tells}
-use Rattle.facts.proofs.Counts.{count-counted, counted-count}
+use Rattle.facts.proofs.Counts.{NoCount, count-counted, counted-count}
+use Rattle.facts.proofs.Telling.{told-no, told-yes}
 use Rattle.step.specs.Call.{Lent, lend, Judged, Outcome}
-
--- an answer without a number
-abbrev NoCount : Records → Type 0
-NoCount (Count N) = ⊥
-NoCount Unfit = Unit {0}
-
--- what a negated answer tells
-told-no : (b : Bool) (P : Type 0) → Tells b P → not b ≡ true → P → ⊥
-told-no true P T q = absurd (true≢false (sym q))
-told-no false P T q = T
-
-pub told-yes : (b : Bool) (P : Type 0) → Tells b P → not b ≡ false → P
-told-yes true P T q = T
-told-yes false P T q = absurd (true≢false q)
 
 module _ (used active : ℕ) (table stack memory bytes x : List ℕ) (r : Records) (e : r ≡ recordCount (length table)) where
   abbrev l : Lent

@@ -8,11 +8,8 @@ use lib.Dec.{eqb}
 use lib.ListN.{length}
 use Rattle.facts.specs.Count.{Counted}
 use Rattle.facts.specs.Sound.{Sound}
+use Rattle.facts.proofs.Counts.{count-once}
 use Rattle.step.specs.Call.{Lent, effect, refusalOf, Judged, Outcome, unfit, unsound, judged}
-
--- a table has one count of records
-count-once : (numbers N M : ℕ) → Counted numbers N → Counted numbers M → N ≡ M
-count-once numbers N M C D = let c = C .is in let d = D .is in omega arith
 
 module _ (l : Lent) (bytes x : List ℕ) where
   judged-once : (N n n′ : ℕ) (l₁ l₂ : Lent) → Judged N l bytes x n l₁ → Judged N l bytes x n′ l₂ → (n ≡ n′) × (l₁ ≡ l₂)

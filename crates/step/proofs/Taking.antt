@@ -54,7 +54,7 @@ module _ (used : ℕ) (s : List ℕ) (at : ℕ) where
       (λ q. let z = eqb-true k labelArgument q in path-used e (omega arith))
       (λ q. let z = eqb-true k labelZeroTest q in path-used e (omega arith))
 
-step-reaches : (used : ℕ) (stack memory x : List ℕ) → labelsFit used stack memory x ≡ true → StepReaches used (stepOf x)
+pub step-reaches : (used : ℕ) (stack memory x : List ℕ) → labelsFit used stack memory x ≡ true → StepReaches used (stepOf x)
 unfolding labelsFit stepOf
 step-reaches used stack memory x e =
     let a = areSlots used stack && areEntries used memory in
@@ -96,7 +96,7 @@ module _ (N used active : ℕ) (table stack memory bytes x : List ℕ) (P : Pass
     )
 
     module _ (b : Bool) (room : (m : Machine) → m .facts ≡ nodes table used → b ≡ leb (length (analyze m (eqb active 1) bytes s .facts)) N) where
-      room-is : b ≡ roomThere N table used (eqb active 1) bytes stack memory x
+      room-is : b ≡ roomThere N (lent table used stack memory) (eqb active 1) bytes x
       unfolding roomThere
       room-is =
           room (lent table used stack memory) refl

@@ -45,7 +45,7 @@ lend used active table stack memory = record { used = used; active = active; tab
 abbrev pub isActive : Lent → Bool
 isActive l = eqb (l .active) 1
 
--- what a machine leaves in a table of N records: "the lent table equals" the table of its facts
+-- what a machine leaves in a table of N records: the lent table is then the table of its facts
 abbrev pub leftBy : ℕ → Bool → Machine → Lent
 leftBy N active m = record { used = length (m .facts); active = cond active 1 0; table = encode N (m .facts); stack = m .stack; memory = m .memory }
 
@@ -56,7 +56,7 @@ effect N l bytes x =
 
 -- the refusal of a sound table's step, 0 for none
 abbrev pub refusalOf : ℕ → Lent → List ℕ → List ℕ → ℕ
-refusalOf N l bytes x = refusal N (l .table) (l .used) (isActive l) bytes (l .stack) (l .memory) x
+refusalOf N l bytes x = refusal N (l .used) (lent (l .table) (l .used) (l .stack) (l .memory)) (isActive l) bytes x
 
 -- the number that questions 3 to 8 give, and what is left: "the first "no" gives its number, and everything is left unchanged"
 pub record Judged (N : ℕ) (l : Lent) (bytes x : List ℕ) (number : ℕ) (l′ : Lent) : Type 0 where
@@ -67,7 +67,7 @@ pub record Judged (N : ℕ) (l : Lent) (bytes x : List ℕ) (number : ℕ) (l′
 pub data Outcome (l : Lent) (bytes x : List ℕ) (number : ℕ) (l′ : Lent) : Type 0 where
   -- 1. "Is the fact table a multiple of 11 with 1 to 16,384 records?"
   unfit : ((N : ℕ) → Counted (length (l .table)) N → ⊥) → number ≡ 1 → l′ ≡ l → Outcome l bytes x number l′
-  -- 2. "Is it sound?", and a decoder active above 1 is refused with it
+  -- 2. "Is it sound?"; that a decoder active above 1 is refused with it is ours
   unsound : (N : ℕ) → Counted (length (l .table)) N → (Sound (l .table) (l .used) N → l .active ≤ 1 → ⊥) → number ≡ 2 → l′ ≡ l → Outcome l bytes x number l′
   -- 3 to 8
   judged : (N : ℕ) → Counted (length (l .table)) N → Sound (l .table) (l .used) N → l .active ≤ 1 → Judged N l bytes x number l′ → Outcome l bytes x number l′

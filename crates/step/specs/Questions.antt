@@ -12,7 +12,7 @@ use Rattle.opcode.specs.Lists.{listed, slotNeeders}
 use Rattle.labels.specs.Formed.{isLabel, areSlots, areEntries}
 use Rattle.labels.specs.Step.{stepOf}
 use Rattle.analyze.specs.Analyze.{analyze}
-use Rattle.analyze.specs.Ready.{lent}
+use Rattle.analyze.specs.Machine.{Machine}
 
 -- 3. "Is the code at most 65,536 bytes?"
 abbrev pub codeFits : List ℕ → Bool
@@ -50,19 +50,19 @@ fieldsFit memory x =
 unfoldable pub slotThere : List ℕ → ℕ → Bool
 slotThere stack op = not (listed op slotNeeders) || leb slotWidth (length stack)
 
--- 8. "Are enough records free for those the step adds?"
-unfoldable pub roomThere : ℕ → List ℕ → ℕ → Bool → List ℕ → List ℕ → List ℕ → List ℕ → Bool
-roomThere N table used active bytes stack memory x = leb (length (analyze (lent table used stack memory) active bytes (stepOf x) .facts)) N
+-- 8. "Are enough records free for those the step adds?" m is what is lent, the facts of the used records in it
+unfoldable pub roomThere : ℕ → Machine → Bool → List ℕ → List ℕ → Bool
+roomThere N m active bytes x = leb (length (analyze m active bytes (stepOf x) .facts)) N
 
 -- "the first "no" gives its number"; 0 where there is none
-unfoldable pub refusal : ℕ → List ℕ → ℕ → Bool → List ℕ → List ℕ → List ℕ → List ℕ → ℕ
-refusal N table used active bytes stack memory x =
+unfoldable pub refusal : ℕ → ℕ → Machine → Bool → List ℕ → List ℕ → ℕ
+refusal N used m active bytes x =
     cond (codeFits bytes)
-    (cond (sizesFit stack memory x)
-    (cond (labelsFit used stack memory x)
-    (cond (fieldsFit memory x)
-    (cond (slotThere stack (getD x stepOp 0))
-    (cond (roomThere N table used active bytes stack memory x) 0 8) 7) 6) 5) 4) 3
+    (cond (sizesFit (m .stack) (m .memory) x)
+    (cond (labelsFit used (m .stack) (m .memory) x)
+    (cond (fieldsFit (m .memory) x)
+    (cond (slotThere (m .stack) (getD x stepOp 0))
+    (cond (roomThere N m active bytes x) 0 8) 7) 6) 5) 4) 3
 
 -- LT or GT
 abbrev pub comparing : ℕ → Bool

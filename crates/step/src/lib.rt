@@ -5,12 +5,7 @@ mod questions;
 
 pub use arrive::number_of;
 pub use arrive::step;
-
-// "the head (records used, decoder active)". Decoder active is 0 or 1; a larger number is refused by 2.
-pub struct Head {
-    pub used: u32,
-    pub active: u32,
-}
+use head::Head;
 
 // Taken, or the question that was answered with no.
 pub enum StepAnswer {

@@ -2,8 +2,8 @@
 ghost use mathlib.Core.Path.{_≡_};
 ghost use Prim.Native.Nat.{_≤_};
 ghost use lib.ListN.{length};
+use head::Head;
 use libc::STDIN_FILENO;
-use step::Head;
 use vectors::wide;
 
 pub fn read_number() -> u32 {

@@ -1,7 +1,7 @@
 // Performs the steps of standard input, trace by trace, each trace on a fresh table with the head { used 1, active 1 }, and writes what became of them:
-// for each trace its name, how many numbers its table has and how many records the fresh call counted, or `refused 1`; then for each step a line with
-// the answer's number (0 taken), used and active, and each number that the step changed, as letter, index and value: s of the stack, m of the
-// memory, t of the table, indices from 0.
+// for each trace its name, how many numbers its table has and how many records the fresh call counted, or `refused 1`; then for each step its number,
+// the answer's (0 taken), used, active and how many numbers beyond the used records aren't zero, and below it what the step left, a line for each used
+// record (r), slot (s) and memory entry (m), with its number from 1. Of more than 64 records, slots or entries those that are zero are left out.
 //
 // Numbers are u32, lowest byte first. A trace is a name (40 bytes), the name's length, how many numbers the table has, how many steps follow, and these.
 // A step is: whether the head is replaced first (1, and used and active of the new one) or not (0); the pairs of the table, which are stored before the
@@ -21,14 +21,11 @@ use vectors::put;
 // Numbers of one record more than the largest table, so that a table can be too long.
 const TABLE_ROOM: usize = 180235;
 
-fn run_part(table: &mut [u32], before: &mut [u32], length: usize) {
+fn run_part(table: &mut [u32], length: usize) {
     if table.len() < length {
         return;
     }
-    if before.len() < length {
-        return;
-    }
-    run_trace(&mut table[0..length], &mut before[0..length]);
+    run_trace(&mut table[0..length]);
 }
 
 // One trace; false at the end of the input.
@@ -45,8 +42,7 @@ fn run_one() -> bool {
     let length = read_number();
     put_count(length);
     let mut table = [0u32; TABLE_ROOM];
-    let mut before = [0u32; TABLE_ROOM];
-    run_part(&mut table, &mut before, length as usize);
+    run_part(&mut table, length as usize);
     true
 }
 

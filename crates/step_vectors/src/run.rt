@@ -4,11 +4,10 @@ use crate::input::read_head;
 use crate::input::read_list;
 use crate::input::read_number;
 use crate::input::read_pairs;
-use crate::report::put_answer;
-use crate::report::put_changes;
+use crate::report::put_place;
 use crate::report::put_records;
-use step::Head;
-use vectors::put;
+use crate::report::put_step;
+use head::Head;
 
 // Room for more than the largest lists, so that they can be too long.
 const CODE_ROOM: usize = 65540;
@@ -19,19 +18,8 @@ const MEMORY_ROOM: usize = 15390;
 
 const STEP_ROOM: usize = 64;
 
-fn copy(from: &[u32], to: &mut [u32]) {
-    let mut i = 0;
-    while i < to.len() {
-        if from.len() <= i {
-            return;
-        }
-        to[i] = from[i];
-        i += 1;
-    }
-}
-
-// Puts the step; its line begins with the answer and the head.
-fn put_step(
+// Takes or refuses the step, and writes what it left.
+fn take_step(
     head: Head,
     table: &mut [u32],
     code: &[u8],
@@ -42,26 +30,7 @@ fn put_step(
     let stepped = step::step(head, table, code, stack, memory, numbers);
     let answer = stepped.answer;
     let next = stepped.head;
-    put_answer(step::number_of(answer), next);
-    next
-}
-
-// Puts the step, and writes what it changed in stack and memory.
-fn put_step_changes(
-    head: Head,
-    table: &mut [u32],
-    code: &[u8],
-    stack: &mut [u32],
-    memory: &mut [u32],
-    numbers: &[u32],
-) -> Head {
-    let mut stack_before = [0u32; STACK_ROOM];
-    let mut memory_before = [0u32; MEMORY_ROOM];
-    copy(stack, &mut stack_before);
-    copy(memory, &mut memory_before);
-    let next = put_step(head, table, code, stack, memory, numbers);
-    put_changes(b"s", &stack_before, stack);
-    put_changes(b"m", &memory_before, memory);
+    put_step(step::number_of(answer), next, table, stack, memory);
     next
 }
 
@@ -73,7 +42,7 @@ fn run_lists(head: Head, table: &mut [u32], code: &[u8]) -> Head {
     let s = read_list(&mut stack);
     let m = read_list(&mut memory);
     let n = read_list(&mut numbers);
-    put_step_changes(
+    take_step(
         head,
         table,
         code,
@@ -89,27 +58,24 @@ fn run_code(head: Head, table: &mut [u32]) -> Head {
     run_lists(head, table, &code[0..c])
 }
 
-fn run_step(handed: Head, table: &mut [u32], before: &mut [u32]) -> Head {
+fn run_step(handed: Head, table: &mut [u32]) -> Head {
     let head = read_head(handed);
     read_pairs(table);
-    copy(table, before);
-    let next = run_code(head, table);
-    put_changes(b"t", before, table);
-    put(b"\n");
-    next
+    run_code(head, table)
 }
 
-fn run_steps(table: &mut [u32], before: &mut [u32], count: u32) {
+fn run_steps(table: &mut [u32], count: u32) {
     let mut head = Head { used: 1, active: 1 };
     let mut i: u32 = 0;
     while i < count {
-        head = run_step(head, table, before);
         i += 1;
+        put_place(i);
+        head = run_step(head, table);
     }
 }
 
-pub fn run_trace(table: &mut [u32], before: &mut [u32]) {
+pub fn run_trace(table: &mut [u32]) {
     let records = facts::fresh(table);
     put_records(records);
-    run_steps(table, before, read_number());
+    run_steps(table, read_number());
 }

@@ -6,9 +6,4 @@ use Rattle.facts.proofs.fact.is_under_seen.Tie as tie
 
 pub is-under-seen-spec : {M : Type 1} → statement M
 is-under-seen-spec =
-    tie.close
-    (tie.spec
-    (λ c κs. search needs)
-    (λ c κs. search needs)
-    (λ c κs. search needs)
-    (λ c. search (under-seen-is, needs)))
+    tie.close (tie.spec (λ c κs. search needs) (λ c κs. search needs) (λ c. search (under-seen-is, needs)))

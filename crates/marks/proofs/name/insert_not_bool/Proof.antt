@@ -1,6 +1,6 @@
 -- `marks::name::insert_not_bool` meets its contract. Assumes nothing.
 use borrow.Author.Needs.{needs}
-use Rattle.marks.proofs.NameLaws.{marked}
+use Rattle.marks.proofs.MarkLaws.{marked}
 use Rattle.marks.proofs.name.insert_not_bool.Statement.{statement}
 use Rattle.marks.proofs.name.insert_not_bool.Tie as tie
 

@@ -1,7 +1,7 @@
 -- `room::checked::of_is_zero` meets its contract. Assumes nothing.
 use borrow.Author.Needs.{needs}
 use Rattle.room.proofs.Checks.{zero-none, zero-division, zero-made}
-use Rattle.room.proofs.Labelled.{not-zero}
+use Rattle.labels.proofs.Choosing.{not-zero}
 use Rattle.room.proofs.checked.of_is_zero.Statement.{statement}
 use Rattle.room.proofs.checked.of_is_zero.Tie as tie
 

@@ -1,7 +1,8 @@
 -- `step::arrive::step` meets its contract. Assumes nothing.
 use mathlib.Core.Path.{sym, _∙_}
 use borrow.Author.Needs.{needs}
-use Rattle.step.proofs.Arriving.{no-records, high-active, not-sound, told-yes, judged-so}
+use Rattle.step.proofs.Arriving.{no-records, high-active, not-sound, judged-so}
+use Rattle.facts.proofs.Telling.{told-yes}
 use Rattle.facts.proofs.Counts.{count-counted}
 use Rattle.step.proofs.arrive.step.Statement.{statement}
 use Rattle.step.proofs.arrive.step.Tie as tie

@@ -7,10 +7,10 @@ use Rattle.step_vectors.proofs.run.run_steps.Statement.{statement}
 use Rattle.step_vectors.proofs.run.run_steps.Tie as tie
 
 abbrev Inv-loop : tie.InvT-loop
-Inv-loop table₀ before₀ count head₀ i₀ table before head i = (length table ≡ length table₀) × (length before ≡ length before₀)
+Inv-loop table₀ count head₀ i₀ table head i = length table ≡ length table₀
 
 abbrev μ-loop : tie.MeasureT-loop
-μ-loop table₀ before₀ count head₀ i₀ table before head i = count - i
+μ-loop table₀ count head₀ i₀ table head i = count - i
 
 pub run-steps-spec : {M : Type 1} → statement M
 run-steps-spec =
@@ -19,9 +19,9 @@ run-steps-spec =
     Inv-loop
     μ-loop
     (λ c. search needs)
+    (λ c. search needs)
     (λ c κs. search needs)
-    (λ c. search needs)
-    (λ c. search needs)
+    (λ c κs. search needs)
     (λ c. search needs)
     (λ c. search needs)
     (λ c. search needs)

@@ -1,0 +1,24 @@
+-- The answer of `fits_type_budget`: what is left of the budget. Assumes nothing: these are definitions.
+use Prim.Native.Nat.{ℕ, _-_}
+use mathlib.Core.Bool.{Bool, cond, _&&_}
+use mathlib.Core.List.{List}
+use lib.Dec.{leb}
+use lib.ListN.{length}
+use Rattle.limits.specs.Limits.{codesMax}
+use Rattle.facts.specs.State.{Node}
+use Rattle.list.specs.Budget.{spend, fitsBudget}
+use Rattle.list.specs.Walk.{spendBelow, shallowBelow}
+use Rattle.budget.specs.declared.Budget.{Budget}
+use Rattle.budget.specs.declared.Budget.the-variants.{Left, Over}
+
+-- "left is 8,192 less the sum"
+unfoldable pub budgetOf : List Node → Budget
+budgetOf s = cond (fitsBudget s) (Left (codesMax - spend s)) Over
+
+-- what a sum leaves of a number, over if a fact lies too deep or the sum is larger
+unfoldable pub leaves : Bool → ℕ → ℕ → Budget
+leaves shallow sum left = cond (shallow && leb sum left) (Left (left - sum)) Over
+
+-- what the facts at r and below it leave of a number, r standing at that depth
+unfoldable pub budgetBelow : List Node → ℕ → ℕ → ℕ → Budget
+budgetBelow s r depth left = leaves (shallowBelow (length s) s depth r) (spendBelow (length s) s r) left

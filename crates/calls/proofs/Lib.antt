@@ -1,0 +1,3 @@
+mod Following
+mod TermLaws
+pub mod Demand3

@@ -1,0 +1,50 @@
+-- What demand 3 claims, in its own words and order; proofs/Demand3.antt proves each. Assumes nothing: these are definitions.
+use Prim.Native.Nat.{ℕ, _-_, _*_, _≤_}
+use mathlib.Core.Path.{_≡_}
+use mathlib.Core.Bool.{true}
+use mathlib.Core.Logic.{_↔_}
+use mathlib.Core.List.{List, _∷_, _++_}
+use lib.ListN.{length, drop}
+use Rattle.limits.specs.Limits.{codesMax, wordBytes}
+use Rattle.types.specs.Tree.{count}
+use Rattle.types.specs.Codes.{allCodes}
+use Rattle.facts.specs.State.{Node, nodes}
+use Rattle.list.specs.Budget.{spend}
+use Rattle.list.specs.Types.{listOf}
+use Rattle.closing.specs.Words.{Handed, filled}
+use Rattle.closing.specs.Answer.{Verdict, none, over, granted, isGranted, numberOf}
+use Rattle.closing.specs.Call as closing-call
+use Rattle.calls.specs.Facts.{Call, closing, known}
+use Rattle.calls.specs.Run.{Held, fresh, Run}
+use Rattle.calls.specs.Terms.{SomeArgument, NoneDeeper, SumFits, WellListed}
+
+-- an answer judged by the facts s: it "grants a list exactly when some argument is known, no fact lies deeper than 64, and the sum over all facts of last word plus one
+-- is at most 8,192. Otherwise it answers none if no argument is known, and over if one is."
+pub record JudgedBy (s : List Node) (v : Verdict) : Type 0 where
+  pub grants : (isGranted v ≡ true) ↔ (SomeArgument s × NoneDeeper s × SumFits s)
+  pub none-known : (v ≡ none) ↔ (SomeArgument s → ⊥)
+  pub over-known : (v ≡ over) ↔ (SomeArgument s × (NoneDeeper s × SumFits s → ⊥))
+
+-- a closing in a list of calls, after those before it: what it was handed, its answer and what it left; "every closing in it that is not refused, judged by the facts
+-- that document 01 works out from the calls alone, its own fill included"
+pub record ClosingIn (N : ℕ) (before : List Call) (h : Handed) (types : List ℕ) : Type 0 where
+  pub handed : Held
+  pub ran : Run (fresh N) before handed
+  pub answer : Verdict
+  pub left : closing-call.Lent
+  pub outcome : closing-call.Outcome (closing-call.lend (handed .used) (handed .active) (handed .table) types) h answer left
+  pub judged : numberOf answer ≡ 0 → JudgedBy (filled (known N before .facts) h) answer
+
+-- the facts of a closing that was lent l: those of its table, its own fill included
+abbrev pub factsOf : closing-call.Lent → Handed → List Node
+factsOf l h = filled (nodes (l .table) (l .used)) h
+
+-- "A granted list, also one from a sound table got in another way, is the one that document 01 gives for its facts, reports as budget left 8,192 less that sum, is made of
+-- ABI types only, has no more type parts than the sum, and nests at most 129 levels."
+pub record GrantedList (l : closing-call.Lent) (h : Handed) (entries left head : ℕ) (l′ : closing-call.Lent) : Type 0 where
+  pub list : l′ .types ≡ allCodes (listOf (factsOf l h)) ++ drop (length (allCodes (listOf (factsOf l h)))) (l .types)
+  pub counted : entries ≡ count (listOf (factsOf l h))
+  pub sum-fits : SumFits (factsOf l h)
+  pub budget-left : left ≡ codesMax - spend (factsOf l h)
+  pub head-is : head ≡ wordBytes * entries
+  pub listed : WellListed (factsOf l h) (listOf (factsOf l h))

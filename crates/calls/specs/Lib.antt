@@ -1,0 +1,4 @@
+pub mod Facts
+pub mod Run
+pub mod Terms
+pub mod Claims

@@ -1,0 +1,101 @@
+-- None, over or granted: what the answer and the type slice are in each case. Assumes nothing.
+use Prim.Native.Nat.{ℕ, zero, suc, _+_, _-_, _*_, _^_, _≤_}
+use mathlib.Core.Path.{_≡_, refl, sym, ap, _∙_}
+use mathlib.Core.Bool.{Bool, true, false, true≢false, cond, _&&_, and-eq-true-iff}
+use mathlib.Core.List.{List, [], _∷_, _++_}
+use native.Mathlib.Omega.{arith}
+use native.Mathlib.Nat.{zero-add}
+use native.Mathlib.Numerals.{add-one}
+use lib.Dec.{eqb, leb}
+use lib.ListN.{length, drop}
+use lib.Seq.{sets, sets-eq}
+use borrow.Author.Tests.{eq-eqb, ne-eqb, leb-true}
+use Rattle.limits.specs.Limits.{codesMax, wordBytes}
+use Rattle.types.specs.Codes.{allCodes}
+use Rattle.types.proofs.Sizes.{count-codes}
+use Rattle.facts.specs.Formed.{Formed}
+use Rattle.facts.specs.State.{Node}
+use Rattle.list.specs.Seen.{childrenIn, isEmpty, lastWord}
+use Rattle.list.specs.Looks.{Looked}
+use Rattle.list.specs.Budget.{shallow, spend, fitsBudget}
+use Rattle.list.specs.Types.{wordTypes, listOf}
+use Rattle.list.specs.declared.Children.{Children}
+use Rattle.list.proofs.ChildrenLaws.{empty-is}
+use Rattle.budget.specs.declared.Budget.{Budget}
+use Rattle.budget.specs.declared.Budget.the-variants.{Left, Over}
+use Rattle.budget.specs.Answer.{budgetOf}
+use Rattle.sizes.proofs.ListCodes.{list-codes}
+use Rattle.sizes.proofs.Granted.{list-count}
+use Rattle.closing.specs.Answer.{Verdict, none, over, granted, entries, answerOf, typesAfter, withList}
+
+-- what a budget leaves, 0 for none
+abbrev leftIn : Budget → ℕ
+leftIn (Left n) = n
+leftIn Over = 0
+
+abbrev isLeft : Budget → Bool
+isLeft (Left n) = true
+isLeft Over = false
+
+module _ (s : List Node) (kids : Children) (types : List ℕ) (L : Looked s 1 kids) where
+  childless : isEmpty (childrenIn s 1) ≡ eqb (kids .count) 0
+  childless = empty-is (childrenIn s 1) ∙ ap (λ (n : ℕ). eqb n 0) (sym (L .count))
+
+  pub answer-none : kids .count ≡ 0 → (none ≡ answerOf s) × (types ≡ typesAfter s types)
+  unfolding answerOf typesAfter
+  answer-none z = rw (childless, eq-eqb (kids .count) 0 z) (refl, refl)
+
+  module _ (n : kids .count ≡ 0 → ⊥) (b : Budget) (e : b ≡ budgetOf s) where
+    fits-is : isLeft b ≡ fitsBudget s
+    unfolding budgetOf
+    fits-is = ap isLeft e ∙ go (fitsBudget s)
+      where
+        go : (f : Bool) → isLeft (cond f (Left (codesMax - spend s)) Over) ≡ f
+        go true = refl
+        go false = refl
+
+    pub answer-over : b ≡ Over → (over ≡ answerOf s) × (types ≡ typesAfter s types)
+    unfolding answerOf typesAfter
+    answer-over z =
+        let f : fitsBudget s ≡ false = sym fits-is ∙ ap isLeft z in
+        rw (childless, ne-eqb (kids .count) 0 n, f) (refl, refl)
+
+    module _ (left : ℕ) (z : b ≡ Left left) where
+      fits : fitsBudget s ≡ true
+      fits = sym fits-is ∙ ap isLeft z
+
+      left-is : left ≡ codesMax - spend s
+      unfolding budgetOf
+      left-is = ap leftIn (sym z ∙ e) ∙ ap (λ (f : Bool). leftIn (cond f (Left (codesMax - spend s)) Over)) fits
+
+      pub spend-most : spend s ≤ codesMax
+      spend-most = leb-true (spend s) codesMax (and-eq-true-iff (shallow s) (leb (spend s) codesMax) .0 fits .1)
+
+      pub answer-granted : (w : ℕ) (types′ : List ℕ) → w ≡ lastWord s 1 → types′ ≡ sets types 0 (allCodes (wordTypes s 1 0 (w + 1)))
+          → codesMax ≤ length types → Formed s
+          → (granted (w + 1) left (wordBytes * (w + 1)) ≡ answerOf s) × (types′ ≡ typesAfter s types)
+      unfolding answerOf typesAfter listOf
+      answer-granted w types′ q t h F =
+          let e : w + 1 ≡ suc (lastWord s 1) = add-one w ∙ ap suc q in
+          let most = list-codes s F in
+          let m = spend-most in
+          let room : 0 + length (allCodes (listOf s)) ≤ length types = omega arith in (
+            rw (childless, ne-eqb (kids .count) 0 n, fits, ← left-is, ← e) refl,
+            rw (childless, ne-eqb (kids .count) 0 n, fits)
+                (t ∙ ap (λ (k : ℕ). sets types 0 (allCodes (wordTypes s 1 0 k))) e ∙ sets-eq (allCodes (listOf s)) types 0 room
+                ∙ ap (λ (k : ℕ). allCodes (listOf s) ++ drop k types) (zero-add (length (allCodes (listOf s))))),
+          )
+
+      -- the codes fit, and the entries are few
+      pub list-fits : Formed s → length (allCodes (listOf s)) ≤ codesMax
+      list-fits F = let a = list-codes s F in let m = spend-most in omega arith
+
+      pub entries-most : Formed s → suc (lastWord s 1) ≤ codesMax
+      entries-most F = let a = list-fits F in let c = count-codes (listOf s) in let k = list-count s in omega arith
+
+      pub words-fit : (w : ℕ) → w ≡ lastWord s 1 → Formed s → 0 + length (allCodes (wordTypes s 1 0 (w + 1))) ≤ codesMax
+      unfolding listOf
+      words-fit w q F =
+          let e : length (allCodes (wordTypes s 1 0 (w + 1))) ≡ length (allCodes (listOf s)) = ap (λ (k : ℕ). length (allCodes (wordTypes s 1 0 k))) (add-one w ∙ ap suc q) in
+          let l = list-fits F in
+          omega arith

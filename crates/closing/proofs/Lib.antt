@@ -1,0 +1,5 @@
+mod WordLaws
+mod AnswerLaws
+mod JudgeLaws
+mod Arriving
+pub mod Outcomes

@@ -1,0 +1,4 @@
+pub mod Words
+pub mod Dynamics
+pub mod Answer
+pub mod Call

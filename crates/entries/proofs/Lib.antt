@@ -1,0 +1,8 @@
+pub mod PathLaws
+mod Under
+mod ByKey
+mod Pairs
+mod Looks
+mod WordLaws
+mod TypeSame
+pub mod EntrySame

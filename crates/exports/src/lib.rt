@@ -1,0 +1,112 @@
+// Functions for a host in Rust or C: the fresh call, the step, the closing and the text call, on numbers and slices alone. Each only converts, and calls the
+// core's own. None asks anything of its numbers. What it returns is document 01's number of the refusal, 0 for a call that is taken; a refused call leaves
+// the head and the lent slices unchanged. `argcol.h` beside src/ declares them for C: a slice is a pointer and a length there.
+mod convert;
+
+ghost use Rattle.step.specs.Call.{Outcome as StepOutcome, lend as lendStep};
+ghost use Rattle.closing.specs.Call.{lend as lendTypes};
+ghost use Rattle.text.specs.Call.{Outcome as TextOutcome};
+ghost use Rattle.exports.specs.Numbers.{FreshOutcome, ClosingOutcome, saying};
+use convert::close;
+use convert::records_number;
+use convert::text_length;
+use convert::text_number;
+use facts::fresh;
+use head::Head;
+use step::number_of;
+use step::step;
+use text::text;
+
+// A closing's answer in numbers. Kind is 0 for a refusal, 1 for none, 2 for over, 3 for granted; the values are 0 unless it is granted.
+pub struct Answered {
+    pub number: u32,
+    pub kind: u32,
+    pub entries: u32,
+    pub left: u32,
+    pub length: u32,
+}
+
+// What a closing leaves beside the lent slices.
+pub struct Ended {
+    pub head: Head,
+    pub said: Answered,
+}
+
+// The fresh call.
+#[no_mangle]
+pub extern "C" fn argcol_fresh(used: &mut u32, active: &mut u32, table: &mut [u32]) -> u32
+    ensures { λ r. ⌜ FreshOutcome (now (used .entry)) (now (active .entry)) (now (table .entry)) r (now (used .exit)) (now (active .exit)) (now (table .exit)) ⌝ }
+{
+    let number = records_number(fresh(table));
+    if number == 0 {
+        *used = 1;
+        *active = 1;
+    }
+    number
+}
+
+// The step.
+#[no_mangle]
+pub extern "C" fn argcol_step(
+    used: &mut u32,
+    active: &mut u32,
+    table: &mut [u32],
+    code: &[u8],
+    stack: &mut [u32],
+    memory: &mut [u32],
+    numbers: &[u32],
+) -> u32
+    ensures { λ r. ⌜ StepOutcome (lendStep (now (used .entry)) (now (active .entry)) (now (table .entry)) (now (stack .entry)) (now (memory .entry))) (now (code .entry)) (now (numbers .entry)) r (lendStep (now (used .exit)) (now (active .exit)) (now (table .exit)) (now (stack .exit)) (now (memory .exit))) ⌝ }
+{
+    let head = Head {
+        used: *used,
+        active: *active,
+    };
+    let stepped = step(head, table, code, stack, memory, numbers);
+    *used = stepped.head.used;
+    *active = stepped.head.active;
+    let answer = stepped.answer;
+    number_of(answer)
+}
+
+// The closing. 100 is our own number: the packed word can't be read. The last four are always written.
+#[no_mangle]
+pub extern "C" fn argcol_closing(
+    used: &mut u32,
+    active: &mut u32,
+    table: &mut [u32],
+    code: &[u8],
+    start: u32,
+    flag: u32,
+    word: &[u32],
+    types: &mut [u16],
+    kind: &mut u32,
+    entries: &mut u32,
+    left: &mut u32,
+    length: &mut u32,
+) -> u32
+    ensures { λ r. ⌜ ClosingOutcome (lendTypes (now (used .entry)) (now (active .entry)) (now (table .entry)) (now (types .entry))) (now (code .entry)) start flag (now (word .entry)) (saying r (now (kind .exit)) (now (entries .exit)) (now (left .exit)) (now (length .exit))) (lendTypes (now (used .exit)) (now (active .exit)) (now (table .exit)) (now (types .exit))) ⌝ }
+{
+    let head = Head {
+        used: *used,
+        active: *active,
+    };
+    let ended = close(head, table, code, start, flag, word, types);
+    *used = ended.head.used;
+    *active = ended.head.active;
+    *kind = ended.said.kind;
+    *entries = ended.said.entries;
+    *left = ended.said.left;
+    *length = ended.said.length;
+    ended.said.number
+}
+
+// The text call. The length is always written, 0 for a refusal.
+#[no_mangle]
+pub extern "C" fn argcol_text(codes: &[u16], out: &mut [u8], length: &mut usize) -> u32
+    ensures { λ r. ⌜ TextOutcome (now (codes .entry)) (now (out .entry)) r (now (length .exit)) (now (out .exit)) ⌝ }
+{
+    let answer = text(codes, out);
+    *length = text_length(answer);
+    text_number(answer)
+}

@@ -1,0 +1,53 @@
+// A fact's seen children, in one walk of its chain.
+ghost use mathlib.Core.Path.{_≡_};
+ghost use Prim.Native.Nat.{_≤_};
+ghost use Rattle.facts.specs.State.{nodes};
+ghost use Rattle.paths.specs.Shape.{Shaped};
+ghost use Rattle.list.specs.Seen.{lastKey, lastWord};
+ghost use Rattle.list.specs.Looks.{Looked};
+use crate::Children;
+use facts::field;
+use limits::WORD_BYTES;
+use limits::fields::CHILD;
+use limits::fields::COUNT;
+use limits::fields::KEY;
+use limits::fields::KIND;
+use limits::fields::NEXT;
+use limits::fields::SEEN;
+
+// Unseen records stand in the chain and are passed over.
+pub fn seen_children(table: &[u32], n: u32, used: u32, r: u32) -> Children
+    requires { ⌜ Shaped (now table) used n ⌝ }
+    requires { ⌜ (1 ≤ r) × (r ≤ used) ⌝ }
+    ensures { λ c. ⌜ Looked (nodes (now (table .entry)) used) r c ⌝ }
+{
+    let mut count: u32 = 0;
+    let mut last_key: u32 = 0;
+    let mut last_kind: u32 = 0;
+    let mut c = field(table, r, CHILD);
+    while c != 0 {
+        if field(table, c, SEEN) == 1 {
+            count += 1;
+            last_key = field(table, c, KEY);
+            last_kind = field(table, c, KIND);
+        }
+        c = field(table, c, NEXT);
+    }
+    Children {
+        count,
+        last_key,
+        last_kind,
+    }
+}
+
+// The last word of a fact whose seen children end at this key.
+pub fn last_word(table: &[u32], n: u32, used: u32, r: u32, last: u32) -> u32
+    requires { ⌜ Shaped (now table) used n ⌝ }
+    requires { ⌜ (1 ≤ r) × (r ≤ used) ⌝ }
+    requires { ⌜ last ≡ lastKey (nodes (now table) used) r ⌝ }
+    ensures { λ w. ⌜ w ≡ lastWord (nodes (now (table .entry)) used) r ⌝ }
+{
+    let word = last / WORD_BYTES;
+    let count = field(table, r, COUNT);
+    if word < count { count } else { word }
+}

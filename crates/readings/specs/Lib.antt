@@ -1,0 +1,4 @@
+pub mod Steps
+pub mod Facts
+pub mod Said
+pub mod Table

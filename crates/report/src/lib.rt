@@ -1,0 +1,61 @@
+// What is printed of a closing, on slices: `refused N at 0`, `none`, `over` or the list.
+ghost use mathlib.Core.Path.{_≡_};
+ghost use Prim.Native.Nat.{_≤_};
+ghost use lib.ListN.{length};
+ghost use Rattle.limits.specs.Limits.{codesMax};
+ghost use Rattle.trace.specs.Lines.{listRoom};
+ghost use Rattle.closing.specs.Answer.{verdictOf};
+ghost use Rattle.closing.specs.Call.{lend};
+ghost use Rattle.report.specs.Answer.{Reported, Printed};
+use closing::Closing;
+use closing::Packed;
+use closing::close;
+use closing::number_of;
+use head::Head;
+use spell::put_bytes;
+use trace::put_list;
+use trace::put_refused;
+
+// Stores the lines of an answer at the start of the slice: "else `none`, `over` or the list". Answers how many bytes they have.
+fn put_answer(answer: Closing, types: &[u16], out: &mut [u8]) -> usize
+    requires { ⌜ (length (now types) ≤ codesMax) × (listRoom ≤ length (now out)) ⌝ }
+    ensures { λ r. ⌜ Reported (verdictOf answer) (now (types .entry)) (now (out .entry)) r (now (out .exit)) ⌝ }
+    ensures { λ r. ⌜ r ≤ length (now (out .exit)) ⌝ }
+{
+    let number = number_of(answer);
+    match answer {
+        Closing::Nothing => put_bytes(out, 0, b"none\n"),
+        Closing::Over => put_bytes(out, 0, b"over\n"),
+        Closing::Granted(granted) => put_list(
+            out,
+            granted.entries,
+            granted.left,
+            granted.length,
+            types,
+        ),
+        Closing::NoRecords => put_refused(out, number, 0),
+        Closing::Unsound => put_refused(out, number, 0),
+        Closing::LongCode => put_refused(out, number, 0),
+        Closing::ShortTypes => put_refused(out, number, 0),
+        Closing::NoRoom => put_refused(out, number, 0),
+    }
+}
+
+// Closes, and stores what is printed of it at the start of the slice; answers how many bytes that are.
+pub fn close_into(
+    head: Head,
+    table: &mut [u32],
+    code: &[u8],
+    start: u32,
+    packed: Packed,
+    types: &mut [u16],
+    out: &mut [u8],
+) -> usize
+    requires { ⌜ (length (now types) ≤ codesMax) × (listRoom ≤ length (now out)) ⌝ }
+    ensures { λ r. ⌜ Printed (lend (head .used) (head .active) (now (table .entry)) (now (types .entry))) (record { code = now (code .entry); start = start; packed = packed }) (now (out .entry)) r (now (out .exit)) ⌝ }
+    ensures { λ r. ⌜ r ≤ length (now (out .exit)) ⌝ }
+{
+    let closed = close(head, table, code, start, packed, types);
+    let answer = closed.answer;
+    put_answer(answer, types, out)
+}

@@ -1,0 +1,4 @@
+pub mod PlanLaws
+mod AheadLaws
+mod BoundLaws
+mod WriteLaws

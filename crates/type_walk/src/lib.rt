@@ -1,0 +1,19 @@
+// The type walk: `to_alloy_type`, which writes the codes of the list to a slice. It calls itself for each child, and walks a chain once beside the words.
+mod ahead;
+mod write;
+
+pub use write::write_words;
+
+// How the codes of a fact's type are written: one or two codes ahead, 0 for none, and then those of some of its words.
+pub struct Plan {
+    pub first: u32,
+    pub second: u32,
+    pub start: u32,
+    pub words: u32,
+}
+
+// A word of a fact: the number of its child, 0 for none, and the last child up to the word's key.
+pub struct Found {
+    pub child: u32,
+    pub last: u32,
+}

@@ -1,0 +1,116 @@
+//! The C functions of the archive, on numbers and slices. In C a slice is a pointer and a length; none of them asks anything of its numbers, and none keeps
+//! a pointer. Each returns document 01's number of the refusal, 0 for a call that is taken.
+
+mod archive {
+    unsafe extern "C" {
+        pub fn argcol_fresh(used: &mut u32, active: &mut u32, table: *mut u32, table_len: usize) -> u32;
+        pub fn argcol_step(
+            used: &mut u32,
+            active: &mut u32,
+            table: *mut u32,
+            table_len: usize,
+            code: *const u8,
+            code_len: usize,
+            stack: *mut u32,
+            stack_len: usize,
+            memory: *mut u32,
+            memory_len: usize,
+            numbers: *const u32,
+            numbers_len: usize,
+        ) -> u32;
+        pub fn argcol_closing(
+            used: &mut u32,
+            active: &mut u32,
+            table: *mut u32,
+            table_len: usize,
+            code: *const u8,
+            code_len: usize,
+            start: u32,
+            flag: u32,
+            word: *const u32,
+            word_len: usize,
+            types: *mut u16,
+            types_len: usize,
+            kind: &mut u32,
+            entries: &mut u32,
+            left: &mut u32,
+            length: &mut u32,
+        ) -> u32;
+        pub fn argcol_text(codes: *const u16, codes_len: usize, out: *mut u8, out_len: usize, length: &mut usize) -> u32;
+    }
+}
+
+/// The head that goes along with every call: records used, decoder active.
+#[derive(Clone, Copy, Debug, PartialEq, Eq)]
+pub struct Head {
+    pub used: u32,
+    pub active: u32,
+}
+
+/// A closing's answer. Kind is 0 for a refusal, 1 for none, 2 for over, 3 for granted; the others are 0 unless it is granted.
+#[derive(Clone, Copy, Debug, Default, PartialEq, Eq)]
+pub struct Answered {
+    pub number: u32,
+    pub kind: u32,
+    pub entries: u32,
+    pub left: u32,
+    pub length: u32,
+}
+
+// Each pointer below comes from a slice that is lent for the whole call, with that slice's length; `&mut` keeps the lent ones apart.
+
+pub fn fresh(head: &mut Head, table: &mut [u32]) -> u32 {
+    unsafe { archive::argcol_fresh(&mut head.used, &mut head.active, table.as_mut_ptr(), table.len()) }
+}
+
+pub fn step(head: &mut Head, table: &mut [u32], code: &[u8], stack: &mut [u32], memory: &mut [u32], numbers: &[u32]) -> u32 {
+    unsafe {
+        archive::argcol_step(
+            &mut head.used,
+            &mut head.active,
+            table.as_mut_ptr(),
+            table.len(),
+            code.as_ptr(),
+            code.len(),
+            stack.as_mut_ptr(),
+            stack.len(),
+            memory.as_mut_ptr(),
+            memory.len(),
+            numbers.as_ptr(),
+            numbers.len(),
+        )
+    }
+}
+
+/// At flag 0 there is no packed word. 100 is a number beside document 01's: the flag is above 1, or it is 1 and the word isn't eight numbers.
+pub fn closing(head: &mut Head, table: &mut [u32], code: &[u8], start: u32, flag: u32, word: &[u32], types: &mut [u16]) -> Answered {
+    let mut said = Answered::default();
+    said.number = unsafe {
+        archive::argcol_closing(
+            &mut head.used,
+            &mut head.active,
+            table.as_mut_ptr(),
+            table.len(),
+            code.as_ptr(),
+            code.len(),
+            start,
+            flag,
+            word.as_ptr(),
+            word.len(),
+            types.as_mut_ptr(),
+            types.len(),
+            &mut said.kind,
+            &mut said.entries,
+            &mut said.left,
+            &mut said.length,
+        )
+    };
+    said
+}
+
+/// The number, and the length of the text (0 if it is refused).
+pub fn text(codes: &[u16], out: &mut [u8]) -> (u32, usize) {
+    let mut length = 0;
+    let number = unsafe { archive::argcol_text(codes.as_ptr(), codes.len(), out.as_mut_ptr(), out.len(), &mut length) };
+    (number, length)
+}

@@ -1,0 +1,139 @@
+//! Traces as text and as the trace printer's bytes.
+
+use argcol::Word;
+use argcol::trace::{Trace, TraceStep};
+use std::{
+    io::Write,
+    process::{Command, Output, Stdio},
+};
+
+const P1: &str = include_str!("../traces/p1.trace");
+
+#[test]
+fn p1_is_the_printers_own_input() {
+    let trace = Trace::from_text(P1).unwrap();
+    let printer = concat!(env!("CARGO_MANIFEST_DIR"), "/../../crates/trace_printer");
+    assert_eq!(trace.to_bytes(), std::fs::read(format!("{printer}/stdin")).unwrap());
+    assert_eq!(trace.run(), std::fs::read_to_string(format!("{printer}/stdout")).unwrap());
+}
+
+/// A generator of any numbers, small ones often.
+struct Random(u64);
+
+impl Random {
+    fn next(&mut self) -> u32 {
+        self.0 = self.0.wrapping_mul(6_364_136_223_846_793_005).wrapping_add(1_442_695_040_888_963_407);
+        let value = (self.0 >> 33) as u32;
+        match value % 5 {
+            0 => 0,
+            1 => value / 5 % 4,
+            2 => value / 5 % 256,
+            3 => value / 5 % 20_000,
+            _ => value.rotate_left(9),
+        }
+    }
+
+    fn numbers<const N: usize>(&mut self) -> [u32; N] {
+        let label = N.saturating_sub(13);
+        let mut out = std::array::from_fn(|_| self.next());
+        // labels of every kind, well formed half of the time
+        if self.next().is_multiple_of(2) {
+            out[label] %= 4;
+            let first = match out[label] {
+                0 | 1 => 1,
+                _ => 5 - (out[label + 4] % 2) as usize,
+            };
+            if first == 4 {
+                out[label + 4] = 1;
+            } else {
+                out[label + first..].fill(0);
+            }
+        }
+        out
+    }
+}
+
+#[test]
+fn there_and_back() {
+    let mut r = Random(7);
+    for round in 0..500u32 {
+        let code = (0..r.next() % 100).map(|_| r.next() as u8).collect();
+        let steps = (0..round % 5).map(|_| TraceStep {
+            numbers: r.numbers(),
+            slots: (0..r.next() % 4).map(|_| r.numbers()).collect(),
+            entries: (0..r.next() % 4).map(|_| r.numbers()).collect(),
+        });
+        let steps = steps.collect();
+        let trace = Trace { code, start: r.next(), packed: round.is_multiple_of(3), word: Word(r.numbers()), steps };
+        assert_eq!(Trace::from_bytes(&trace.to_bytes()).as_ref(), Ok(&trace));
+        assert_eq!(Trace::from_text(&trace.to_text()).as_ref(), Ok(&trace), "{}", trace.to_text());
+    }
+}
+
+#[test]
+fn text_is_plain() {
+    let trace = Trace::from_text(P1).unwrap();
+    let lines: Vec<&str> = P1.lines().map(|line| line.split('#').next().unwrap().trim_end()).filter(|line| !line.is_empty()).collect();
+    assert_eq!(trace.to_text(), lines.join("\n") + "\n");
+    let text = "code 0x6080\nstart 12\npacked 10\nstep 0x100 pc 7\n  first 0 arg 0 path 2 add 4 mask 0xffffffffff\n  pick 1\n  load calldata\n  slot 5 zero-test 4 path 1\n  entry 64 replaced 1 calldata\n";
+    assert_eq!(Trace::from_text(text).unwrap().to_text(), text);
+}
+
+#[test]
+fn what_is_no_trace() {
+    for (text, line) in [
+        ("slot 5", 1),
+        ("step MUL\n\nfirst", 3),
+        ("step MULL", 1),
+        ("step MUL pc 4294967296", 1),
+        ("step MUL\nfirst 1 arg 2", 2),
+        ("step MUL\nslot 1 numbers 2 3", 2),
+        ("code 0x123", 1),
+        ("start 1 2", 1),
+        ("stop", 1),
+    ] {
+        assert_eq!(Trace::from_text(text).unwrap_err().line, Some(line), "{text}");
+    }
+    let bytes = Trace::from_text(P1).unwrap().to_bytes();
+    for length in 0..bytes.len() {
+        assert!(Trace::from_bytes(&bytes[..length]).is_err());
+    }
+    assert!(Trace::from_bytes(&[&bytes[..], &[0]].concat()).is_err());
+    let mut flagged = bytes.clone();
+    flagged[8] = 2;
+    assert!(Trace::from_bytes(&flagged).is_err());
+    assert!(Trace::from_text(&("step MUL\n".to_string() + &"slot 0\n".repeat(257))).is_err());
+}
+
+#[test]
+fn refused_traces_run_as_the_printer_says() {
+    assert_eq!(Trace::default().run(), "none\n");
+    assert_eq!(Trace::from_text("step STOP\nstep CALLDATALOAD\n first 4").unwrap().run(), "refused 7 at 2\n");
+    assert_eq!(Trace::from_text("step 256").unwrap().run(), "refused 6 at 1\n");
+    // PUSH3 01f404 CALLDATASIZE LT: more words than the table has records
+    assert_eq!(Trace::from_text("code 0x6201f4043610").unwrap().run(), "refused 8 at 0\n");
+}
+
+fn program(command: &str, input: &[u8]) -> Output {
+    let mut child = Command::new(env!("CARGO_BIN_EXE_trace_text"))
+        .arg(command)
+        .stdin(Stdio::piped())
+        .stdout(Stdio::piped())
+        .stderr(Stdio::piped())
+        .spawn()
+        .unwrap();
+    child.stdin.take().unwrap().write_all(input).unwrap();
+    child.wait_with_output().unwrap()
+}
+
+#[test]
+fn the_program_there_and_back() {
+    let trace = Trace::from_text(P1).unwrap();
+    let bytes = program("bytes", P1.as_bytes());
+    assert!(bytes.status.success() && bytes.stdout == trace.to_bytes());
+    assert_eq!(program("text", &bytes.stdout).stdout, trace.to_text().as_bytes());
+    assert_eq!(program("run", P1.as_bytes()).stdout, b"args 1 left 8189 head 32\n0 uint256[]\n");
+    let bad = program("bytes", b"step MUL\nfirst x");
+    assert!(!bad.status.success() && bad.stdout.is_empty());
+    assert_eq!(bad.stderr, b"line 2: a word is decimal below 2^64, or hex behind 0x\n");
+}
