@@ -11,7 +11,11 @@ below say which sentence of document 01 or which lines of the Rust their traces 
 - has_dynamic, the bare array, the limit of 4,096, unseen records made seen: 'fill: ..'
 - which names hold, ends in bytes, pairs and arrays, key 0: 'type: ..'
 - the deepest nesting: 'deep: ..'
+
+Behind these come 240 whole runs of the published Rust's machine on generated contracts, 'published: ..', each with the list of its own `function_arguments`: the files
+published.stdin and published.stdout beside this script, which `host/target/release/harness sample 4 240` made (host/README.md).
 """
+import pathlib
 import random
 import struct
 import sys
@@ -417,6 +421,10 @@ def runs(data):
     return bytes(out)
 
 
+def published(part):
+    return pathlib.Path(__file__).with_name('published.' + part).read_bytes()
+
+
 def main():
     if sys.argv[1:] == ['p1-stdin']:
         sys.stdout.buffer.write(header() + u32(3) + b''.join(P1))
@@ -429,10 +437,12 @@ def main():
     if sys.argv[1:] == ['stdin']:
         for name, data in TRACES:
             sys.stdout.buffer.write(name.encode().ljust(40, b'\0') + u32(len(name), len(data)) + runs(data))
+        sys.stdout.buffer.write(published('stdin'))
     elif sys.argv[1:] == ['stdout']:
         for name, data in TRACES:
             print(name)
             print(model.printed(data), end='')
+        print(published('stdout').decode(), end='')
     else:
         sys.exit(__doc__)
 

@@ -450,3 +450,76 @@ pub fn run(code: &[u8], tally: &mut Tally) -> Option<(u64, usize)> {
     }
     Some((steps, published.len()))
 }
+
+// ---- a sample for the gate
+
+/// A run as the trace printer's input, and the lines that the published list gives; none if no function was found, if it does not fit the printer's sizes, or
+/// if the sides differ.
+pub fn sample(code: &[u8]) -> Option<(Vec<u8>, String)> {
+    let scene =
+        Scene { head: Head { used: 0, active: 0 }, table: vec![0; RECORDS * RECORD], code: code.to_vec(), stack: Vec::new(), memory: Vec::new() };
+    let mut tally = Tally::new();
+    let mut ours = Ours { tally: &mut tally, scene, start: None, memory: Vec::new(), steps: 0, calls: Vec::new(), spent: Duration::ZERO };
+    compare::fresh(ours.tally, &mut ours.scene.head, &mut ours.scene.table);
+    published::watch(code, SELECTOR, 0, &mut ours);
+    let published = published::arguments(code, SELECTOR, 0);
+    let Ours { tally, mut scene, start, calls, .. } = ours;
+    let (pc, packed) = start?;
+    let packed = packed.map(|word| word_numbers(&word));
+    let mut types = vec![0; TYPES];
+    let verdict = compare::close(tally, &mut scene, &Closing { start: pc as u32, packed }, &mut types);
+    let fits = calls.iter().all(|(_, stack, memory)| stack.len() <= 256 * SLOT && memory.len() <= 256 * ENTRY);
+    if tally.differences != 0 || !fits || code.len() > 24_576 {
+        return None;
+    }
+    let mut numbers = vec![pc as u32, u32::from(packed.is_some())];
+    numbers.extend(packed.unwrap_or([0; 8]));
+    let mut data = bytes(&[code.len() as u32]);
+    data.extend(bytes(&numbers));
+    data.extend(code);
+    data.extend(bytes(&[calls.len() as u32]));
+    for (step, stack, memory) in &calls {
+        data.extend(bytes(step));
+        data.extend(bytes(&[(stack.len() / SLOT) as u32, (memory.len() / ENTRY) as u32]));
+        data.extend(bytes(stack));
+        data.extend(bytes(memory));
+    }
+    Some((data, lines(verdict, &published)))
+}
+
+fn bytes(numbers: &[u32]) -> Vec<u8> {
+    numbers.iter().flat_map(|n| n.to_le_bytes()).collect()
+}
+
+/// The printer's lines for the published codes; left is the closing's, which the comparison holds against the published budget.
+fn lines(verdict: Verdict, codes: &[u16]) -> String {
+    match verdict {
+        Verdict::None => "none\n".into(),
+        Verdict::Over => "over\n".into(),
+        Verdict::Granted { left, .. } => {
+            let (mut out, mut at, mut k) = (String::new(), 0, 0);
+            while at < codes.len() {
+                out += &format!("{k} {}\n", text(codes, &mut at));
+                k += 1;
+            }
+            format!("args {k} left {left} head {}\n{out}", 32 * k)
+        }
+        Verdict::Refused(number) => format!("refused {number} at 0\n"),
+    }
+}
+
+fn text(codes: &[u16], at: &mut usize) -> String {
+    let code = codes[*at];
+    *at += 1;
+    match code {
+        1 => "bool".into(),
+        2 => "address".into(),
+        3 => "bytes".into(),
+        4 => "string".into(),
+        5 => text(codes, at) + "[]",
+        1000..2000 => format!("uint{}", code - 1000),
+        2000..3000 => format!("int{}", code - 2000),
+        3000..16384 => format!("bytes{}", code - 3000),
+        _ => format!("({})", (16384..code).map(|_| text(codes, at)).collect::<Vec<_>>().join(",")),
+    }
+}

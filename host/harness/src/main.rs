@@ -6,6 +6,7 @@
 //!     harness damaged SEED STEPS  only calls with one or two numbers or lengths wrong
 //!     harness large SEED STEPS    tables, stacks, memories and codes at their limits, full and one too large
 //!     harness machine SEED RUNS   whole runs of the published machine on generated contracts
+//!     harness sample SEED RUNS    such runs as traces for the program `replay`, with the published lists: host/sample.stdin and host/sample.stdout
 //!     harness speed SEED RUNS     time for each step of such runs: the source's `analyze`, and the core on tables of 64 and 1,480 records
 
 mod calls;
@@ -33,6 +34,7 @@ fn main() -> ExitCode {
         "damaged" => run(seed, steps, calls::damaged),
         "large" => run(seed, steps, calls::at_limits),
         "machine" => machines(seed, steps),
+        "sample" => sample(seed, steps),
         "speed" => speed(seed, steps),
         "mutant" => mutant(seed, steps),
         "counters" => {
@@ -40,7 +42,7 @@ fn main() -> ExitCode {
             counters() && good
         }
         _ => {
-            println!("harness run|counters|mutant|damaged|large|machine|speed SEED COUNT");
+            println!("harness run|counters|mutant|damaged|large|machine|sample|speed SEED COUNT");
             false
         }
     };
@@ -104,6 +106,42 @@ fn machines(seed: u64, runs: u64) -> bool {
     println!("steps {}, at most {longest} in one run; closings {}: none, over, granted {:?}", tally.steps, tally.closings, tally.verdicts);
     println!("differences {}", tally.differences);
     tally.differences == 0
+}
+
+// Zeros counted, as the program `replay` reads them: how many zeros, how many other bytes, and these.
+fn runs_of(data: &[u8]) -> Vec<u8> {
+    let (mut out, mut at) = (Vec::new(), 0);
+    while at < data.len() {
+        let zeros = data[at..].iter().take(255).take_while(|byte| **byte == 0).count();
+        let start = at + zeros;
+        let plain = data[start..].iter().take(255).take_while(|byte| **byte != 0).count();
+        out.extend([zeros as u8, plain as u8]);
+        out.extend(&data[start..start + plain]);
+        at = start + plain;
+    }
+    out
+}
+
+fn sample(seed: u64, runs: u64) -> bool {
+    if !published::AT_HAND {
+        println!("the published source is not at hand: no sample is made");
+        return false;
+    }
+    let mut r = Random(seed);
+    let (mut stdin, mut stdout, mut found) = (Vec::new(), String::new(), 0);
+    while found < runs {
+        let Some((data, lines)) = machine::sample(&machine::contract(&mut r)) else { continue };
+        found += 1;
+        let name = format!("published: seed {seed} run {found}");
+        let mut field = name.clone().into_bytes();
+        field.resize(40, 0);
+        stdin.extend(field);
+        stdin.extend([name.len() as u32, data.len() as u32].iter().flat_map(|n| n.to_le_bytes()));
+        stdin.extend(runs_of(&data));
+        stdout += &format!("{name}\n{lines}");
+    }
+    println!("{found} runs, {} and {} bytes", stdin.len(), stdout.len());
+    std::fs::write("sample.stdin", stdin).and_then(|()| std::fs::write("sample.stdout", stdout)).is_ok()
 }
 
 fn speed(seed: u64, runs: u64) -> bool {
