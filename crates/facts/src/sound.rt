@@ -9,18 +9,19 @@ use crate::fact::is_root;
 use crate::links::are_chained_records;
 use limits::RECORD_WIDTH;
 
-// Is every number from that place on zero?
+// Is every number from that place on zero? No early end, so that the compiler takes several numbers at a time.
 fn is_zero_from(table: &[u32], start: usize) -> bool
     ensures { λ b. ⌜ Tells b (ZeroFrom (now (table .entry)) start) ⌝ }
 {
+    let mut clean = true;
     let mut i = start;
     while i < table.len() {
         if table[i] != 0 {
-            return false;
+            clean = false;
         }
         i += 1;
     }
-    true
+    clean
 }
 
 // Is a table of n records, as question 1 counts them, sound with that many used? It may hold any numbers; the time is linear in its length.

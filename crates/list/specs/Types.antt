@@ -1,12 +1,12 @@
 -- The list: the Rust's `to_alloy_type` over the facts, as types. Assumes nothing: these are definitions.
-use Prim.Native.Nat.{ℕ, zero, suc, _+_, _-_, _*_, _/_, max}
-use mathlib.Core.Bool.{Bool, true, false, cond, not, _&&_, _||_}
-use mathlib.Core.List.{List, [], _∷_}
+use Prim.Native.Nat.{ℕ, zero, suc, _-_, _*_, max}
+use mathlib.Core.Bool.{Bool, cond, not, _&&_, _||_}
+use mathlib.Core.List.{List}
 use lib.Dec.{eqb}
 use lib.ListN.{length}
 use Rattle.limits.specs.Codes as code
 use Rattle.limits.specs.Limits.{wordBytes, kindDynamic, kindArray}
-use Rattle.names.specs.Elementary.{Elementary, bytes, uint, ofCode}
+use Rattle.names.specs.Elementary.{bytes, uint, ofCode}
 use Rattle.types.specs.Tree.{AbiType, AbiTypes, elementary, array, tuple, nil, cons}
 use Rattle.facts.specs.State.{Node, nodeOf}
 use Rattle.paths.specs.Find.{findIn}
