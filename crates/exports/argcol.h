@@ -6,7 +6,8 @@
  * lent slices as they were. What a function returns is that number, 0 for a call that is taken. crates/exports/src/lib.rt has the contracts.
  *
  * Memory, which no contract can ask for: a pointer with a length is to that many numbers, the others are to one. No pointer is NULL, at length 0 neither; each
- * is aligned for its type; what is written overlaps with nothing else that is handed in; and nothing else writes to any of it during the call.
+ * is aligned for its type; what is written overlaps with nothing else that is handed in; and nothing else writes to any of it during the call. The calling thread
+ * has stack left: the walks over the facts call themselves once for each level, and the deepest table (16,384 records in one chain) takes between 1.0 and 1.13 MB.
  *
  * The head is two numbers, lent to every call but the text call: used, the records used, and active, 1 while the decoder phase lasts and 0 after it.
  */

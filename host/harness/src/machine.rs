@@ -325,7 +325,21 @@ fn put_label(tag: &Tag, records: &HashMap<Path, u32>) -> Option<[u32; LABEL]> {
     Some(out)
 }
 
-impl Ours<'_> {
+impl<'a> Ours<'a> {
+    /// A fresh table, in place of one that holds `old` everywhere.
+    fn begin(tally: &'a mut Tally, code: &[u8], old: u32) -> Self {
+        let scene = Scene {
+            head: Head { used: 0, active: 0 },
+            table: vec![old; RECORDS * RECORD],
+            code: code.to_vec(),
+            stack: Vec::new(),
+            memory: Vec::new(),
+        };
+        let mut ours = Ours { tally, scene, start: None, memory: Vec::new(), steps: 0, calls: Vec::new(), spent: Duration::ZERO };
+        compare::fresh(ours.tally, &mut ours.scene.head, &mut ours.scene.table);
+        ours
+    }
+
     fn numbers(&self, step: &Step, stack: &[Slot], memory: &[Entry]) -> Option<(Vec<u32>, Vec<u32>, Vec<u32>)> {
         let records: HashMap<Path, u32> =
             compare::paths(&self.scene.table, self.scene.head.used).into_iter().enumerate().skip(1).map(|(n, path)| (path, n as u32)).collect();
@@ -405,11 +419,8 @@ impl Watcher for Ours<'_> {
 /// Times for one contract's steps: the source's `analyze`, and the core on a table of so many records. The core's part asks the
 /// questions each time, soundness of the whole table among them; the source's asks none. Conversions are not counted on either side.
 pub fn times(code: &[u8], core: &dyn Core, records: usize) -> Option<(u64, Duration, Duration)> {
-    let scene =
-        Scene { head: Head { used: 0, active: 0 }, table: vec![0; RECORDS * RECORD], code: code.to_vec(), stack: Vec::new(), memory: Vec::new() };
     let mut tally = Tally::new();
-    let mut ours = Ours { tally: &mut tally, scene, start: None, memory: Vec::new(), steps: 0, calls: Vec::new(), spent: Duration::ZERO };
-    compare::fresh(ours.tally, &mut ours.scene.head, &mut ours.scene.table);
+    let mut ours = Ours::begin(&mut tally, code, 0);
     published::watch(code, SELECTOR, 0, &mut ours);
     ours.start?;
     let (mut calls, steps, source) = (ours.calls, ours.steps, ours.spent);
@@ -424,10 +435,7 @@ pub fn times(code: &[u8], core: &dyn Core, records: usize) -> Option<(u64, Durat
 
 /// One contract: steps of the run and length of the list, none if no function was found in it.
 pub fn run(code: &[u8], tally: &mut Tally) -> Option<(u64, usize)> {
-    let scene =
-        Scene { head: Head { used: 0, active: 0 }, table: vec![7; RECORDS * RECORD], code: code.to_vec(), stack: Vec::new(), memory: Vec::new() };
-    let mut ours = Ours { tally, scene, start: None, memory: Vec::new(), steps: 0, calls: Vec::new(), spent: Duration::ZERO };
-    compare::fresh(ours.tally, &mut ours.scene.head, &mut ours.scene.table);
+    let mut ours = Ours::begin(tally, code, 7);
     let watched = published::watch(code, SELECTOR, 0, &mut ours);
     let published = published::arguments(code, SELECTOR, 0);
     let Ours { tally, mut scene, start, steps, .. } = ours;
@@ -453,14 +461,11 @@ pub fn run(code: &[u8], tally: &mut Tally) -> Option<(u64, usize)> {
 
 // ---- a sample for the gate
 
-/// A run as the trace printer's input, and the lines that the published list gives; none if no function was found, if it does not fit the printer's sizes, or
-/// if the sides differ.
+/// A run as the trace printer's input, and its lines: the types are the published list's own; which of none and over, and what is left, are our closing's, since the
+/// published program tells neither. None if no function was found or the run does not fit the printer's sizes. A difference between the sides ends the program.
 pub fn sample(code: &[u8]) -> Option<(Vec<u8>, String)> {
-    let scene =
-        Scene { head: Head { used: 0, active: 0 }, table: vec![0; RECORDS * RECORD], code: code.to_vec(), stack: Vec::new(), memory: Vec::new() };
     let mut tally = Tally::new();
-    let mut ours = Ours { tally: &mut tally, scene, start: None, memory: Vec::new(), steps: 0, calls: Vec::new(), spent: Duration::ZERO };
-    compare::fresh(ours.tally, &mut ours.scene.head, &mut ours.scene.table);
+    let mut ours = Ours::begin(&mut tally, code, 0);
     published::watch(code, SELECTOR, 0, &mut ours);
     let published = published::arguments(code, SELECTOR, 0);
     let Ours { tally, mut scene, start, calls, .. } = ours;
@@ -469,7 +474,12 @@ pub fn sample(code: &[u8]) -> Option<(Vec<u8>, String)> {
     let mut types = vec![0; TYPES];
     let verdict = compare::close(tally, &mut scene, &Closing { start: pc as u32, packed }, &mut types);
     let fits = calls.iter().all(|(_, stack, memory)| stack.len() <= 256 * SLOT && memory.len() <= 256 * ENTRY);
-    if tally.differences != 0 || !fits || code.len() > 24_576 {
+    let same = match verdict {
+        Verdict::Granted { .. } => types[..published.len()] == published[..] && types[published.len()..].iter().all(|n| *n == 0),
+        _ => published.is_empty(),
+    };
+    assert!(tally.differences == 0 && same, "the sides differ: {verdict:?}, published {published:?}, code {code:02x?}");
+    if !fits || code.len() > 24_576 {
         return None;
     }
     let mut numbers = vec![pc as u32, u32::from(packed.is_some())];

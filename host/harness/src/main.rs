@@ -128,9 +128,12 @@ fn sample(seed: u64, runs: u64) -> bool {
         return false;
     }
     let mut r = Random(seed);
-    let (mut stdin, mut stdout, mut found) = (Vec::new(), String::new(), 0);
+    let (mut stdin, mut stdout, mut found, mut passed) = (Vec::new(), String::new(), 0, 0);
     while found < runs {
-        let Some((data, lines)) = machine::sample(&machine::contract(&mut r)) else { continue };
+        let Some((data, lines)) = machine::sample(&machine::contract(&mut r)) else {
+            passed += 1;
+            continue;
+        };
         found += 1;
         let name = format!("published: seed {seed} run {found}");
         let mut field = name.clone().into_bytes();
@@ -140,7 +143,7 @@ fn sample(seed: u64, runs: u64) -> bool {
         stdin.extend(runs_of(&data));
         stdout += &format!("{name}\n{lines}");
     }
-    println!("{found} runs, {} and {} bytes", stdin.len(), stdout.len());
+    println!("{found} runs, {} and {} bytes; {passed} passed over: no function found, or larger than the printer takes", stdin.len(), stdout.len());
     std::fs::write("sample.stdin", stdin).and_then(|()| std::fs::write("sample.stdout", stdout)).is_ok()
 }
 
