@@ -13,7 +13,13 @@ use Rattle.types.specs.Tree.{AbiTypes, nil, cons, count, levels, mostLevels}
 use Rattle.facts.specs.Formed.{Formed}
 use Rattle.facts.specs.Sound.{Sound}
 use Rattle.facts.specs.State.{Node, nodes}
+use Rattle.facts.specs.declared.Records.{Records}
+use Rattle.facts.specs.declared.Records.the-variants.{Count, Unfit}
+use Rattle.facts.specs.Count.{recordCount}
+use Rattle.facts.specs.Fresh.{numberOf as freshNumber}
+use Rattle.facts.proofs.Counts.{count-counted}
 use Rattle.facts.proofs.States.{sound-formed}
+use Rattle.fresh.specs.Call as fresh-call
 use Rattle.kinds.proofs.KindSounds.{formed-fill}
 use Rattle.list.specs.Seen.{childrenIn, isEmpty, lastWord}
 use Rattle.list.specs.Budget.{shallow, spend, fitsBudget}
@@ -31,7 +37,7 @@ use Rattle.closing.specs.Call as closing-call
 use Rattle.calls.specs.Facts.{Call, step, closing, Known, start, known, after, afterAll}
 use Rattle.calls.specs.Run.{Held, held, fresh, Does, Run, heldOf}
 use Rattle.calls.specs.Terms.{SomeArgument, NoneDeeper, SumFits, WellListed, levelsMax}
-use Rattle.calls.specs.Claims.{JudgedBy, ClosingIn, factsOf, GrantedList}
+use Rattle.calls.specs.Claims.{FirstOf, JudgedBy, ClosingIn, factsOf, GrantedList}
 use Rattle.calls.proofs.Following.{Good, start-good, closing-judged, run-held, run-there, filled-formed}
 use Rattle.calls.proofs.TermLaws.{argument-child, child-argument, shallow-deeper, deeper-shallow}
 
@@ -107,6 +113,16 @@ split t [] c behind t′ R = record { handed = t; ran = refl; left = R .0; does 
 split t (b ∷ before) c behind t′ R =
     let S = split (R .0) before c behind t′ (R .2) in
     record { handed = S .handed; ran = (R .0, R .1, S .ran); left = S .left; does = S .does; rest = S .rest }
+
+-- document 01: "A taken fresh call comes first and fixes the record count.": it leaves the head and the table from which the lists of calls start
+pub fresh-first : (l l′ : fresh-call.Lent) → fresh-call.Outcome l 0 l′ → FirstOf l′
+fresh-first l l′ O = go (recordCount (length (l .table))) refl (O .answers) (O .leaves)
+  where
+    go : (r : Records) → recordCount (length (l .table)) ≡ r → 0 ≡ freshNumber r → l′ ≡ fresh-call.freshened r l → FirstOf l′
+    go (Count N) e z q =
+        let C = count-counted (length (l .table)) N e in
+        record { count = N; some = C .some; most = C .most; leaves = ap (λ (m : fresh-call.Lent). held (m .used) (m .active) (m .table)) q }
+    go Unfit e z q = absurd (differ 0 1 refl z)
 
 module _ (N : ℕ) (N1 : 1 ≤ N) (NM : N ≤ recordsMax) where
   -- "For every list of steps and closings, refused ones included, from a fresh table, each handed the table and the head beside it as the one before left them, and

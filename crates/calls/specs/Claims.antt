@@ -5,18 +5,26 @@ use mathlib.Core.Bool.{true}
 use mathlib.Core.Logic.{_↔_}
 use mathlib.Core.List.{List, _∷_, _++_}
 use lib.ListN.{length, drop}
-use Rattle.limits.specs.Limits.{codesMax, wordBytes}
+use Rattle.limits.specs.Limits.{codesMax, wordBytes, recordsMax}
 use Rattle.types.specs.Tree.{count}
 use Rattle.types.specs.Codes.{allCodes}
 use Rattle.facts.specs.State.{Node, nodes}
 use Rattle.list.specs.Budget.{spend}
 use Rattle.list.specs.Types.{listOf}
+use Rattle.fresh.specs.Call as fresh-call
 use Rattle.closing.specs.Words.{Handed, filled}
 use Rattle.closing.specs.Answer.{Verdict, none, over, granted, isGranted, numberOf}
 use Rattle.closing.specs.Call as closing-call
 use Rattle.calls.specs.Facts.{Call, closing, known}
-use Rattle.calls.specs.Run.{Held, fresh, Run}
+use Rattle.calls.specs.Run.{Held, held, fresh, Run}
 use Rattle.calls.specs.Terms.{SomeArgument, NoneDeeper, SumFits, WellListed}
+
+-- what a taken fresh call has left: a record count of 1 to 16,384, and the head and the table from which a list of calls starts, "from a fresh table"
+pub record FirstOf (l : fresh-call.Lent) : Type 0 where
+  pub count : ℕ
+  pub some : 1 ≤ count
+  pub most : count ≤ recordsMax
+  pub leaves : held (l .used) (l .active) (l .table) ≡ fresh count
 
 -- an answer judged by the facts s: it "grants a list exactly when some argument is known, no fact lies deeper than 64, and the sum over all facts of last word plus one
 -- is at most 8,192. Otherwise it answers none if no argument is known, and over if one is."

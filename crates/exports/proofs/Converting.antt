@@ -8,10 +8,7 @@ use lib.Dec.{eqb}
 use borrow.Author.Tests.{eq-eqb, ne-eqb, eqb-true, not-true, not-false}
 use lib.ListN.{length}
 use Rattle.word.specs.Numbers.{limbsAt}
-use Rattle.facts.specs.declared.Records.{Records}
-use Rattle.facts.specs.declared.Records.the-variants.{Count, Unfit}
-use Rattle.facts.specs.Count.{recordCount}
-use Rattle.facts.specs.Fresh.{freshTable}
+use Rattle.fresh.specs.Call.{Lent as FreshLent, Outcome as FreshOutcome}
 use Rattle.closing.specs.declared.Packed.{Packed}
 use Rattle.closing.specs.declared.Packed.the-variants.{Absent, Word}
 use Rattle.closing.specs.declared.Closing.{Closing}
@@ -20,30 +17,12 @@ use Rattle.closing.specs.Call.{Lent, Outcome}
 use Rattle.step.specs.Call.{Lent as StepLent, Outcome as StepOutcome}
 use Rattle.text.specs.Call.{Outcome as TextOutcome}
 use Rattle.exports.specs.declared.Answered.{Answered}
-use Rattle.exports.specs.Numbers.{freshNumber, freshHead, FreshOutcome, answered, isReadable, packedOf, noPackedWord, ClosingOutcome}
+use Rattle.exports.specs.Numbers.{answered, isReadable, packedOf, noPackedWord, ClosingOutcome}
 
--- the fresh call, by whether its number is 0
-module _ (used active : ℕ) (t t′ : List ℕ) (n : ℕ) where
-  fresh-so : (r : Records) (used′ active′ : ℕ) → r ≡ recordCount (length t) → t′ ≡ freshTable r t → n ≡ freshNumber r
-      → used′ ≡ freshHead r used → active′ ≡ freshHead r active → FreshOutcome used active t n used′ active′ t′
-  fresh-so r used′ active′ e q d u a =
-      record {
-        answers = d ∙ ap freshNumber e;
-        uses = u ∙ ap (λ (k : Records). freshHead k used) e;
-        activates = a ∙ ap (λ (k : Records). freshHead k active) e;
-        leaves = q ∙ ap (λ (k : Records). freshTable k t) e;
-      }
+-- the fresh call, the step and the text call, from the numbers of their answers
+pub opened-so : (l : FreshLent) (n k : ℕ) (l′ : FreshLent) → n ≡ k → FreshOutcome l k l′ → FreshOutcome l n l′
+opened-so l n k l′ e O = subst (λ (j : ℕ). FreshOutcome l j l′) (sym e) O
 
-  pub fresh-taken : (r : Records) → r ≡ recordCount (length t) → t′ ≡ freshTable r t → n ≡ freshNumber r → n ≡ 0 → FreshOutcome used active t n 1 1 t′
-  fresh-taken (Count N) e q d z = fresh-so (Count N) 1 1 e q d refl refl
-  fresh-taken Unfit e q d z = absurd (omega arith)
-
-  pub fresh-refused : (r : Records) → r ≡ recordCount (length t) → t′ ≡ freshTable r t → n ≡ freshNumber r → (n ≡ 0 → ⊥)
-      → FreshOutcome used active t n used active t′
-  fresh-refused (Count N) e q d z = absurd (z d)
-  fresh-refused Unfit e q d z = fresh-so Unfit used active e q d refl refl
-
--- the step and the text call, from the numbers of their answers
 pub stepped-so : (l : StepLent) (bytes x : List ℕ) (n k : ℕ) (l′ : StepLent) → n ≡ k → StepOutcome l bytes x k l′ → StepOutcome l bytes x n l′
 stepped-so l bytes x n k l′ e O = subst (λ (j : ℕ). StepOutcome l bytes x j l′) (sym e) O
 

@@ -1,5 +1,5 @@
--- The calls in numbers, as a host sees them: which number says what. The step and the text call answer by document 01's number (0 for a call that is taken) and
--- need no more than their own definitions; here are the fresh call and the closing. Assumes nothing: these are definitions.
+-- The calls in numbers, as a host sees them: which number says what. The fresh call, the step and the text call answer by document 01's number (0 for a call that is
+-- taken) and need no more than their own definitions; here is the closing. Assumes nothing: these are definitions.
 use Prim.Native.Nat.{ℕ}
 use mathlib.Core.Path.{_≡_}
 use mathlib.Core.Bool.{Bool, true, false, cond, _&&_, _||_}
@@ -7,32 +7,11 @@ use mathlib.Core.List.{List}
 use lib.Dec.{eqb}
 use lib.ListN.{length}
 use Rattle.word.specs.Numbers.{limbsAt}
-use Rattle.facts.specs.declared.Records.{Records}
-use Rattle.facts.specs.declared.Records.the-variants.{Count, Unfit}
-use Rattle.facts.specs.Count.{recordCount}
-use Rattle.facts.specs.Fresh.{freshTable}
 use Rattle.closing.specs.declared.Packed.{Packed}
 use Rattle.closing.specs.declared.Packed.the-variants.{Absent, Word}
 use Rattle.closing.specs.Answer.{Verdict, refused, none, over, granted}
 use Rattle.closing.specs.Call.{Lent, Outcome}
 use Rattle.exports.specs.declared.Answered.{Answered}
-
--- the refusal's number of a fresh call, 0 for none
-abbrev pub freshNumber : Records → ℕ
-freshNumber (Count N) = 0
-freshNumber Unfit = 1
-
--- "leaves a lone root, the other records zero, active": one record used, and active 1; refused, each of the two is as it was
-abbrev pub freshHead : Records → ℕ → ℕ
-freshHead (Count N) n = 1
-freshHead Unfit n = n
-
--- what a fresh call answers and leaves
-pub record FreshOutcome (used active : ℕ) (table : List ℕ) (number used′ active′ : ℕ) (table′ : List ℕ) : Type 0 where
-  pub answers : number ≡ freshNumber (recordCount (length table))
-  pub uses : used′ ≡ freshHead (recordCount (length table)) used
-  pub activates : active′ ≡ freshHead (recordCount (length table)) active
-  pub leaves : table′ ≡ freshTable (recordCount (length table)) table
 
 -- the number, the kind and the values of a closing's answer: kind 0 for a refusal, 1 for none, 2 for over, 3 for granted
 abbrev pub saying : ℕ → ℕ → ℕ → ℕ → ℕ → Answered

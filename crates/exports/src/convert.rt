@@ -4,28 +4,17 @@ ghost use mathlib.Core.Bool.{true};
 ghost use Rattle.closing.specs.Answer.{verdictOf};
 ghost use Rattle.closing.specs.Call.{lend};
 ghost use Rattle.text.specs.Call.{numberOf, lengthOf};
-ghost use Rattle.exports.specs.Numbers.{freshNumber, saying, answered, isReadable, packedOf, ClosingOutcome};
+ghost use Rattle.exports.specs.Numbers.{saying, answered, isReadable, packedOf, ClosingOutcome};
 use crate::Answered;
 use crate::Ended;
 use closing::Closing;
 use closing::Packed;
-use facts::Records;
 use head::Head;
 use text::TextAnswer;
 use word::numbers::from_numbers;
 
 // Our own number: the packed word can't be read.
 const NO_PACKED_WORD: u32 = 100;
-
-// The fresh call's number.
-pub fn records_number(records: Records) -> u32
-    ensures { λ r. ⌜ r ≡ freshNumber records ⌝ }
-{
-    match records {
-        Records::Count(n) => 0,
-        Records::Unfit => 1,
-    }
-}
 
 // The text call's number.
 pub fn text_number(answer: TextAnswer) -> u32

@@ -3,15 +3,15 @@
 // the head and the lent slices unchanged. `argcol.h` beside src/ declares them for C: a slice is a pointer and a length there.
 mod convert;
 
+ghost use Rattle.fresh.specs.Call.{Outcome as FreshOutcome, lend as lendFresh};
 ghost use Rattle.step.specs.Call.{Outcome as StepOutcome, lend as lendStep};
 ghost use Rattle.closing.specs.Call.{lend as lendTypes};
 ghost use Rattle.text.specs.Call.{Outcome as TextOutcome};
-ghost use Rattle.exports.specs.Numbers.{FreshOutcome, ClosingOutcome, saying};
+ghost use Rattle.exports.specs.Numbers.{ClosingOutcome, saying};
 use convert::close;
-use convert::records_number;
 use convert::text_length;
 use convert::text_number;
-use facts::fresh;
+use fresh::fresh;
 use head::Head;
 use step::number_of;
 use step::step;
@@ -35,14 +35,17 @@ pub struct Ended {
 // The fresh call.
 #[no_mangle]
 pub extern "C" fn argcol_fresh(used: &mut u32, active: &mut u32, table: &mut [u32]) -> u32
-    ensures { λ r. ⌜ FreshOutcome (now (used .entry)) (now (active .entry)) (now (table .entry)) r (now (used .exit)) (now (active .exit)) (now (table .exit)) ⌝ }
+    ensures { λ r. ⌜ FreshOutcome (lendFresh (now (used .entry)) (now (active .entry)) (now (table .entry))) r (lendFresh (now (used .exit)) (now (active .exit)) (now (table .exit))) ⌝ }
 {
-    let number = records_number(fresh(table));
-    if number == 0 {
-        *used = 1;
-        *active = 1;
-    }
-    number
+    let head = Head {
+        used: *used,
+        active: *active,
+    };
+    let opened = fresh(head, table);
+    *used = opened.head.used;
+    *active = opened.head.active;
+    let answer = opened.answer;
+    facts::number_of(answer)
 }
 
 // The step.

@@ -32,11 +32,17 @@ fn added(table: &[u32], n: u32, used: u32, made: Touched) -> u32
     }
 }
 
-// Are enough records free for those that the step adds?
+// A step makes two paths at most.
+const MOST_ADDED: u32 = 2;
+
+// Are enough records free for those that the step adds? While two are free nothing is looked up.
 pub fn has_room(table: &[u32], n: u32, used: u32, active: bool, code: &[u8], step: Step) -> bool
     requires { ⌜ Ready (now table) used n × StepReaches used step × (1 ≤ used) ⌝ }
     ensures { λ r. ⌜ ((m : Machine) → m .facts ≡ nodes (now (table .entry)) used → r ≡ leb (length (analyze m active (now (code .entry)) step .facts)) n) ⌝ }
 {
+    if MOST_ADDED <= n - used {
+        return true;
+    }
     let made = touched_by(active, code, step);
     added(table, n, used, made) <= n - used
 }

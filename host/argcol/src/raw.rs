@@ -1,8 +1,45 @@
-//! The C functions of the archive, on numbers and slices. In C a slice is a pointer and a length; none of them asks anything of its numbers, and none keeps
+//! The C functions of the archive, on numbers and slices, for this library and for the comparison. In C a slice is a pointer and a length; none of them asks anything of its numbers, and none keeps
 //! a pointer. Each returns document 01's number of the refusal, 0 for a call that is taken.
 
-#[path = "../../abi.rs"]
-mod archive;
+// as crates/exports/argcol.h has them
+mod archive {
+    unsafe extern "C" {
+        pub fn argcol_fresh(used: &mut u32, active: &mut u32, table: *mut u32, table_len: usize) -> u32;
+        pub fn argcol_step(
+            used: &mut u32,
+            active: &mut u32,
+            table: *mut u32,
+            table_len: usize,
+            code: *const u8,
+            code_len: usize,
+            stack: *mut u32,
+            stack_len: usize,
+            memory: *mut u32,
+            memory_len: usize,
+            numbers: *const u32,
+            numbers_len: usize,
+        ) -> u32;
+        pub fn argcol_closing(
+            used: &mut u32,
+            active: &mut u32,
+            table: *mut u32,
+            table_len: usize,
+            code: *const u8,
+            code_len: usize,
+            start: u32,
+            flag: u32,
+            word: *const u32,
+            word_len: usize,
+            types: *mut u16,
+            types_len: usize,
+            kind: &mut u32,
+            entries: &mut u32,
+            left: &mut u32,
+            length: &mut u32,
+        ) -> u32;
+        pub fn argcol_text(codes: *const u16, codes_len: usize, out: *mut u8, out_len: usize, length: &mut usize) -> u32;
+    }
+}
 
 /// The head that goes along with every call: records used, decoder active.
 #[derive(Clone, Copy, Debug, PartialEq, Eq)]
@@ -48,7 +85,9 @@ pub fn step(head: &mut Head, table: &mut [u32], code: &[u8], stack: &mut [u32], 
 
 /// At flag 0 there is no packed word. 100 is a number beside document 01's: the flag is above 1, or it is 1 and the word isn't eight numbers.
 pub fn closing(head: &mut Head, table: &mut [u32], code: &[u8], start: u32, flag: u32, word: &[u32], types: &mut [u16]) -> Answered {
-    let mut said = Answered::default();
+    // every call writes all of them
+    let unwritten = u32::MAX;
+    let mut said = Answered { number: unwritten, kind: unwritten, entries: unwritten, left: unwritten, length: unwritten };
     said.number = unsafe {
         archive::argcol_closing(
             &mut head.used,
@@ -74,7 +113,7 @@ pub fn closing(head: &mut Head, table: &mut [u32], code: &[u8], start: u32, flag
 
 /// The number, and the length of the text (0 if it is refused).
 pub fn text(codes: &[u16], out: &mut [u8]) -> (u32, usize) {
-    let mut length = 0;
+    let mut length = usize::MAX;
     let number = unsafe { archive::argcol_text(codes.as_ptr(), codes.len(), out.as_mut_ptr(), out.len(), &mut length) };
     (number, length)
 }

@@ -140,8 +140,9 @@ fn steps() {
     title("Steps", "step | records | used | slots/entries | ours | Rust | ours/Rust | one by one | vectorized | ours/one by one | ours/vectorized");
     for records in [16, 64, 1_480, 16_384] {
         for (slots, entries) in [(16, 4), (1_024, 1_024)] {
-            for full in [true, false] {
-                let scene = Scene::new(Shape::Wide, if full { records } else { 4 }, records).with(slots, entries);
+            // with fewer than two free records a step looks its paths up once more, to count those that are missing
+            for used in [records, records - 2, 4] {
+                let scene = Scene::new(Shape::Wide, used, records).with(slots, entries);
                 let read = reads(&[&scene.table, &scene.stack, &scene.memory, &[0; STEP]]);
                 for (name, step) in scene.steps() {
                     let (ours, after) = our_step(&scene, &step);

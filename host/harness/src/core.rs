@@ -7,11 +7,7 @@ pub const ENTRY: usize = 15;
 pub const STEP: usize = 59;
 pub const TYPES: usize = 8192;
 
-#[derive(Clone, Copy, Debug, PartialEq, Eq)]
-pub struct Head {
-    pub used: u32,
-    pub active: u32,
-}
+pub use crate::raw::Head;
 
 #[derive(Clone, Copy, Debug, PartialEq, Eq)]
 pub enum Verdict {

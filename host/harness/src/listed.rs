@@ -160,14 +160,15 @@ fn p12_depth() {
 #[cfg(have_archive)]
 #[test]
 fn no_packed_word() {
+    use crate::raw::{self, Answered};
     for (flag, length) in [(2, 8), (u32::MAX, 8), (1, 7), (1, 9), (1, 0)] {
         let (mut head, mut table, mut types) = (Head { used: 3, active: 5 }, vec![7; 13], vec![6; 4]);
-        let said = proved::flagged(&mut head, &mut table, &[], 0, flag, &vec![1; length], &mut types);
-        assert_eq!(said, (100, 0, [0; 3]));
+        let said = raw::closing(&mut head, &mut table, &[], 0, flag, &vec![1; length], &mut types);
+        assert_eq!(said, Answered { number: 100, kind: 0, entries: 0, left: 0, length: 0 });
         assert_eq!((head, table, types), (Head { used: 3, active: 5 }, vec![7; 13], vec![6; 4]));
     }
     // at flag 0 there is none, whatever stands there
     let mut scene = scene(1);
-    let said = proved::flagged(&mut scene.head, &mut scene.table, &[], 0, 0, &[1, 2, 3], &mut vec![0; TYPES]);
-    assert_eq!(said, (0, 1, [0; 3]));
+    let said = raw::closing(&mut scene.head, &mut scene.table, &[], 0, 0, &[1, 2, 3], &mut vec![0; TYPES]);
+    assert_eq!(said, Answered { number: 0, kind: 1, entries: 0, left: 0, length: 0 });
 }

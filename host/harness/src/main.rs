@@ -18,6 +18,9 @@ mod listed;
 mod machine;
 mod plain;
 mod proved;
+#[cfg_attr(not(have_archive), allow(dead_code))]
+#[path = "../../argcol/src/raw.rs"]
+mod raw;
 
 use compare::Tally;
 use generate::Random;

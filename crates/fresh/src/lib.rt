@@ -1,0 +1,28 @@
+// The fresh call: question 1, and then a lone root in the table and the head that goes along with it.
+ghost use Rattle.facts.specs.Fresh.{numberOf};
+ghost use Rattle.fresh.specs.Call.{Outcome, lend};
+use facts::Records;
+use head::Head;
+
+// What a fresh call leaves beside the lent table.
+pub struct Opened {
+    pub head: Head,
+    pub answer: Records,
+}
+
+// Leaves a lone root, the other records zero, and the decoder active; or refuses a table that question 1 doesn't take, and leaves all as it was.
+pub fn fresh(head: Head, table: &mut [u32]) -> Opened
+    ensures { λ r. ⌜ Outcome (lend (head .used) (head .active) (now (table .entry))) (numberOf (r .answer)) (lend (r .head .used) (r .head .active) (now (table .exit))) ⌝ }
+{
+    let records = facts::fresh(table);
+    let Records::Count(n) = records else {
+        return Opened {
+            head,
+            answer: Records::Unfit,
+        };
+    };
+    Opened {
+        head: Head { used: 1, active: 1 },
+        answer: Records::Count(n),
+    }
+}
