@@ -9,18 +9,19 @@ use native.Mathlib.Nat.{eq-or-lt-of-le}
 use lib.ListN.{length}
 use Rattle.facts.proofs.Laws.{lt-or-ge}
 use Rattle.facts.proofs.Distinct.{NoDup, all-in, at-most, at-least}
+use Rattle.facts.proofs.Whole.{is-root, root-fact, le-under-seen}
 use Rattle.limits.specs.Limits.{recordWidth}
-use Rattle.facts.specs.Table.{keyOf, parentOf, childOf, nextOf}
+use Rattle.facts.specs.Table.{keyOf, parentOf, childOf, nextOf, seenOf}
 use Rattle.facts.specs.State.{nodeAt}
 use Rattle.facts.specs.Links.{Kid, First, Linked, In, Seg, Rising, ChainOf, Chained}
-use Rattle.facts.specs.Fact.{isFact, isUnderSeen, AreRecords}
+use Rattle.facts.specs.Fact.{isFact, isRoot, AreRecords}
 
 -- r comes before the key b of the chain of p
 pub record Before (t : List ℕ) (p b r : ℕ) : Type 0 where
   pub parent : parentOf t r ≤ p
   pub key : parentOf t r ≡ p → keyOf t r < b
 
--- the records met, n of them, when the walk stands in the chain of p, before key b
+-- the records met, n of them, all of which have passed their own tests, when the walk stands in the chain of p, before key b
 pub record Walked (t : List ℕ) (u p b n : ℕ) : Type 0 where
   pub met : List ℕ
   pub count : length met ≡ n
@@ -29,14 +30,14 @@ pub record Walked (t : List ℕ) (u p b n : ℕ) : Type 0 where
   pub kid : (r : ℕ) → In r met → Kid t u (parentOf t r) r
   pub before : (r : ℕ) → In r met → Before t p b r
   pub stands : (r : ℕ) → In r met → (ms : List ℕ) × Seg t (childOf t (parentOf t r)) ms r
-  pub under-seen : (r : ℕ) → In r met → isUnderSeen t r ≡ true
+  pub fact : (r : ℕ) → In r met → isFact (nodeAt t r) ≡ true
+  pub seen : (r : ℕ) → In r met → seenOf t r ≤ seenOf t (parentOf t r)
   pub all : Linked t u → (r : ℕ) → 1 < r → r ≤ u → Before t p b r → In r met
 
--- before the record p: those before it have passed their own tests, and have chains, with n records in all
+-- before the record p: those before it have chains, with n records in all
 pub record Outer (t : List ℕ) (u p n : ℕ) : Type 0 where
   pub p1 : 1 ≤ p
   pub pu : p ≤ u + 1
-  pub facts : (q : ℕ) → 1 ≤ q → q < p → isFact (nodeAt t q) ≡ true
   pub chains : (q : ℕ) → 1 ≤ q → q < p → ChainOf t u q
   pub walked : Walked t u p 0 n
 
@@ -44,7 +45,6 @@ pub record Outer (t : List ℕ) (u p n : ℕ) : Type 0 where
 pub record Inner (t : List ℕ) (u p c b n : ℕ) : Type 0 where
   pub p1 : 1 ≤ p
   pub pu : p ≤ u
-  pub facts : (q : ℕ) → 1 ≤ q → q < p + 1 → isFact (nodeAt t q) ≡ true
   pub chains : (q : ℕ) → 1 ≤ q → q < p → ChainOf t u q
   pub ms : List ℕ
   pub seg : Seg t (childOf t p) ms c
@@ -58,7 +58,6 @@ pub start : (t : List ℕ) (u : ℕ) → 1 ≤ u → Outer t u 1 0
 start t u h = record {
   p1 = omega arith;
   pu = omega arith;
-  facts = λ q a b. absurd (omega arith);
   chains = λ q a b. absurd (omega arith);
   walked = record {
     met = [];
@@ -68,16 +67,16 @@ start t u h = record {
     kid = λ r i. absurd i;
     before = λ r i. absurd i;
     stands = λ r i. absurd i;
-    under-seen = λ r i. absurd i;
+    fact = λ r i. absurd i;
+    seen = λ r i. absurd i;
     all = λ L r r1 ru B. let g = L .up r r1 ru in let d = B .parent in let k = B .key (omega arith) in omega arith;
   };
 }
 
-pub enter : (t : List ℕ) (u p n c : ℕ) → Outer t u p n → p ≤ u → isFact (nodeAt t p) ≡ true → c ≡ childOf t p → Inner t u p c 0 n
-enter t u p n c O h f e = record {
+pub enter : (t : List ℕ) (u p n c : ℕ) → Outer t u p n → p ≤ u → c ≡ childOf t p → Inner t u p c 0 n
+enter t u p n c O h e = record {
   p1 = O .p1;
   pu = h;
-  facts = λ q q1 ql. ⊎-elim (λ (z : q ≡ p). rw z f) (λ (l : q < p). O .facts q q1 l) (eq-or-lt-of-le (let a : q ≤ p = omega arith in a));
   chains = O .chains;
   ms = [];
   seg = sym e;
@@ -109,7 +108,7 @@ module _ (t : List ℕ) (u p c b n : ℕ) (I : Inner t u p c b n) where
   pub ask : Linked t u → (c ≡ 0 → ⊥) → Kid t u p c × (b ≤ keyOf t c)
   ask L z = (I .told L .kid z, I .told L .from z)
 
-  module _ (z : c ≡ 0 → ⊥) (K : Kid t u p c) (T : isUnderSeen t c ≡ true) (h : b ≤ keyOf t c) where
+  module _ (z : c ≡ 0 → ⊥) (K : Kid t u p c) (h : b ≤ keyOf t c) (F : isFact (nodeAt t c) ≡ true) (T : seenOf t c ≤ seenOf t p) where
     walked-all : Linked t u → (r : ℕ) → 1 < r → r ≤ u → Before t p (keyOf t c + 1) r → In r (c ∷ I .walked .met)
     walked-all L r r1 ru B = go (lt-or-ge (parentOf t r) p)
       where
@@ -136,7 +135,8 @@ module _ (t : List ℕ) (u p c b n : ℕ) (I : Inner t u p c b n) where
           (λ (e : r ≡ c). rw e (record { parent = let g = K .parent in omega arith; key = λ _. omega arith }))
           (λ (j : In r (I .walked .met)). let B = I .walked .before r j in record { parent = B .parent; key = λ q. let g = B .key q in omega arith }) i;
       stands = λ r i. ⊎-elim (λ (e : r ≡ c). (I .ms, rw e (rw (K .parent) (I .seg)))) (λ j. I .walked .stands r j) i;
-      under-seen = λ r i. ⊎-elim (λ (e : r ≡ c). rw e T) (λ j. I .walked .under-seen r j) i;
+      fact = λ r i. ⊎-elim (λ (e : r ≡ c). rw e F) (λ j. I .walked .fact r j) i;
+      seen = λ r i. ⊎-elim (λ (e : r ≡ c). rw e (rw (K .parent) T)) (λ j. I .walked .seen r j) i;
       all = walked-all;
     }
 
@@ -144,7 +144,6 @@ module _ (t : List ℕ) (u p c b n : ℕ) (I : Inner t u p c b n) where
     step c′ e = record {
       p1 = I .p1;
       pu = I .pu;
-      facts = I .facts;
       chains = I .chains;
       ms = I .ms ++ c ∷ [];
       seg = rw e (seg-snoc t (childOf t p) (I .ms) c (I .seg) z);
@@ -159,7 +158,6 @@ module _ (t : List ℕ) (u p c b n : ℕ) (I : Inner t u p c b n) where
   leave z = record {
     p1 = omega arith;
     pu = let g = I .pu in omega arith;
-    facts = I .facts;
     chains = λ q q1 ql. ⊎-elim (λ (e : q ≡ p). rw e here) (λ (l : q < p). I .chains q q1 l) (eq-or-lt-of-le (let a = ql in omega arith));
     walked = record {
       met = I .walked .met;
@@ -169,7 +167,8 @@ module _ (t : List ℕ) (u p c b n : ℕ) (I : Inner t u p c b n) where
       kid = I .walked .kid;
       before = λ r i. let B = I .walked .before r i in let g = B .parent in record { parent = omega arith; key = λ e. absurd (omega arith) };
       stands = I .walked .stands;
-      under-seen = I .walked .under-seen;
+      fact = I .walked .fact;
+      seen = I .walked .seen;
       all = λ L r r1 ru B. I .walked .all L r r1 ru (record {
         parent = low r B;
         key = λ e. I .told L .none z r (record { above = let q = L .up r r1 ru in omega arith; used = ru; parent = e });
@@ -189,18 +188,31 @@ range t u p b n h S y i = let k = S .kid y i in let r = S .root y i in let a = k
 pub bound : (t : List ℕ) (u p b n : ℕ) → 1 ≤ u → Walked t u p b n → n ≤ u - 1
 bound t u p b n h S = let e = S .count in let g = at-most (u - 1) (S .met) (S .nodup) (range t u p b n h S) in omega arith
 
-pub finish : (t : List ℕ) (u p n : ℕ) → 1 ≤ u → u * recordWidth ≤ length t → Outer t u p n → u < p → n ≡ u - 1 → Chained t u × AreRecords t u
-finish t u p n h w O ul e =
-    let g : (r : ℕ) → 1 < r → r ≤ u → In r (O .walked .met) =
-    λ r r1 ru. all-in (u - 1) (O .walked .met) (O .walked .nodup) (range t u p 0 n h (O .walked)) (O .walked .count ∙ e) r r1 (omega arith) in
+pub finish : (t : List ℕ) (u p n : ℕ) → 1 ≤ u → u * recordWidth ≤ length t → isRoot t ≡ true → Outer t u p n → u < p → n ≡ u - 1 → Chained t u × AreRecords t u
+finish t u p n h w R O ul e =
     let chained : Chained t u = record {
       some = h;
       whole = w;
-      up = λ r r1 ru. (O .walked .root r (g r r1 ru), O .walked .kid r (g r r1 ru) .above);
+      up = λ r r1 ru. (O .walked .root r (met r r1 ru), O .walked .kid r (met r r1 ru) .above);
       chain = λ q q1 qu. O .chains q q1 (omega arith);
-      placed = λ r r1 ru. O .walked .stands r (g r r1 ru);
-    } in
-    (chained, record { fact = λ r r1 ru. O .facts r r1 (omega arith); under-seen = λ r r1 ru. O .walked .under-seen r (g r r1 ru) })
+      placed = λ r r1 ru. O .walked .stands r (met r r1 ru);
+    } in (
+      chained,
+      record {
+        fact = fact;
+        under-seen = λ r r1 ru.
+            let g = chained .up r r1 ru in
+            le-under-seen t r (fact (parentOf t r) (g .0) (omega arith)) (O .walked .seen r (met r r1 ru));
+      },
+    )
+  where
+    -- each record but the root was met
+    met : (r : ℕ) → 1 < r → r ≤ u → In r (O .walked .met)
+    met r r1 ru = all-in (u - 1) (O .walked .met) (O .walked .nodup) (range t u p 0 n h (O .walked)) (O .walked .count ∙ e) r r1 (omega arith)
+
+    -- and the root passed before
+    fact : (r : ℕ) → 1 ≤ r → r ≤ u → isFact (nodeAt t r) ≡ true
+    fact r r1 ru = ⊎-elim (λ (z : 1 ≡ r). rw (← z) (root-fact t (is-root t R))) (λ (l : 1 < r). O .walked .fact r (met r l ru)) (eq-or-lt-of-le r1)
 
 pub few : (t : List ℕ) (u p n : ℕ) → 1 ≤ u → Outer t u p n → u < p → (n ≡ u - 1 → ⊥) → Linked t u → ⊥
 few t u p n h O ul ne L =

@@ -134,6 +134,19 @@ module _ (t : List ℕ) (r : ℕ) where
       let p = and-eq-true-iff (leb (seenOf t r) 1 && leb (notBoolOf t r) 1) (leb (blockedOf t r) 1) .0 h in
       leb-true (seenOf t r) 1 (and-eq-true-iff (leb (seenOf t r) 1) (leb (notBoolOf t r) 1) .0 (p .0) .0)
 
+  -- so a record is under a seen one, if it is seen, just where its flag is not above its parent's
+  pub under-seen-le : isFact (nodeAt t r) ≡ true → isUnderSeen t r ≡ true → seenOf t r ≤ seenOf t (parentOf t r)
+  under-seen-le f h = go (ℕ-discrete (seenOf t r) 1)
+    where
+      go : Dec (seenOf t r ≡ 1) → seenOf t r ≤ seenOf t (parentOf t r)
+      go (yes e) = let p = under-seen h e in omega arith
+      go (no n) = let l = seen-flag (fact-parts (nodeAt t r) f .first) in omega arith
+
+pub le-under-seen : (t : List ℕ) (r : ℕ) → isFact (nodeAt t (parentOf t r)) ≡ true → seenOf t r ≤ seenOf t (parentOf t r) → isUnderSeen t r ≡ true
+le-under-seen t r f h =
+    let l = seen-flag t (parentOf t r) (fact-parts (nodeAt t (parentOf t r)) f .first) in
+    seen-under t r (omega arith) (λ e. omega arith)
+
 -- zero beyond used, number by number and record by record
 module _ (t : List ℕ) (u N : ℕ) (len : length t ≡ N * recordWidth) where
   pub zero-blank : ZeroFrom t (u * recordWidth) → (r : ℕ) → u < r → r ≤ N → Blank t r

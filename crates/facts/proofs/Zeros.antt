@@ -1,11 +1,18 @@
--- A loop that stores zero in one place after the other. Assumes nothing.
+-- Loops over zeros: one that stores zero in one place after the other, and one that joins all numbers by OR to see whether they are zero. Assumes nothing.
 use Prim.Native.Nat.{ℕ, _+_, _≤_, _<_}
 use mathlib.Core.Path.{_≡_, refl, sym, _∙_}
+use mathlib.Core.Bool.{Bool, true, false}
 use mathlib.Core.List.{List}
 use native.Mathlib.Decide.{ℕ-discrete}
 use native.Mathlib.Omega.{arith}
 use lib.ListN.{length, getD, set, replicate, length-set, length-replicate, getD-replicate}
 use lib.Seq.{ext-getD, getD-set-same, getD-set-other}
+use lib.Bits.{bitOr, or-add-and, and-le-r, or-comm}
+use lib.Dec.{eqb}
+use borrow.Author.Tests.{eqb-true, eqb-false}
+use Rattle.facts.specs.Table.{ZeroFrom}
+use Rattle.facts.specs.Sound.{Tells}
+use Rattle.facts.proofs.Scan.{Passed, passed-none, passed-more}
 
 -- t is as long as s was, and zero before i
 pub record Cleared (s t : List ℕ) (i : ℕ) : Type 0 where
@@ -28,3 +35,44 @@ cleared-all s t i C h =
     let e = C .len in
     ext-getD 0 t (replicate (length s) 0) (e ∙ sym m)
     (λ j l. C .zeros j (omega arith) ∙ sym (getD-replicate (length s) j 0 0 (omega arith)))
+
+-- neither side of an OR is above it
+or-above : (a b : ℕ) → a ≤ bitOr a b
+or-above a b = let s = or-add-and a b in let l = and-le-r a b in omega arith
+
+-- so an OR is zero just where both sides are
+pub or-zeros : (a b : ℕ) → bitOr a b ≡ 0 → (a ≡ 0) × (b ≡ 0)
+or-zeros a b e =
+    let l = or-above a b in
+    let m : b ≤ bitOr a b = rw (or-comm a b) (or-above b a) in
+    (omega arith, omega arith)
+
+pub zeros-or : (a b : ℕ) → a ≡ 0 → b ≡ 0 → bitOr a b ≡ 0
+zeros-or a b e f = rw (e, f)
+
+-- the number at j is zero, if there is one
+abbrev pub Zero : List ℕ → ℕ → Type 0
+Zero t j = j < length t → getD t j 0 ≡ 0
+
+-- any, the OR of the numbers from start to before i, is zero just where they all are
+pub record Joined (t : List ℕ) (start i any : ℕ) : Type 0 where
+  pub low : start ≤ i
+  pub zeros : any ≡ 0 → Passed (Zero t) start i
+  pub zero : Passed (Zero t) start i → any ≡ 0
+
+pub joined-none : (t : List ℕ) (start : ℕ) → Joined t start start 0
+joined-none t start = record { low = omega arith; zeros = λ e. passed-none _ _; zero = λ P. refl }
+
+pub joined-more : (t : List ℕ) (start i any : ℕ) → Joined t start i any → i < length t → Joined t start (i + 1) (bitOr any (getD t i 0))
+joined-more t start i any J l = record {
+  low = let h = J .low in omega arith;
+  zeros = λ e. let z = or-zeros any (getD t i 0) e in passed-more _ _ _ (J .zeros (z .0)) (λ _. z .1);
+  zero = λ P. zeros-or any (getD t i 0) (J .zero (record { low = J .low; all = λ j a h. P .all j a (omega arith) })) (P .all i (J .low) (omega arith) l);
+}
+
+pub joined-all : (t : List ℕ) (start i any : ℕ) → Joined t start i any → length t ≤ i → Tells (eqb any 0) (ZeroFrom t start)
+joined-all t start i any J m = go (eqb any 0) refl
+  where
+    go : (b : Bool) → eqb any 0 ≡ b → Tells b (ZeroFrom t start)
+    go true e = λ j a l. J .zeros (eqb-true any 0 e) .all j a (omega arith) l
+    go false e = λ Z. eqb-false any 0 e (J .zero (record { low = J .low; all = λ j a h. Z j a }))

@@ -1,8 +1,9 @@
 // Question 2's tests of one record, its chain apart.
 ghost use mathlib.Core.Path.{_≡_};
-ghost use Rattle.facts.specs.Table.{parentOf, HasRecord};
+ghost use mathlib.Core.Bool.{_&&_};
+ghost use Rattle.facts.specs.Table.{HasRecord};
 ghost use Rattle.facts.specs.State.{nodeAt};
-ghost use Rattle.facts.specs.Fact.{areFlags, isBare, isBareUnseen, isKind, isConfidence, isCount, isNamed, isFact, isUnderSeen, isRoot};
+ghost use Rattle.facts.specs.Fact.{areFlags, isBare, isKind, isConfidence, isCount, isNamed, isFact, isRoot};
 use crate::table::field;
 use limits::ARRAY_COUNT_MAX;
 use limits::CONFIDENCE_MAX;
@@ -44,79 +45,56 @@ fn is_bare(table: &[u32], r: u32) -> bool
         & (field(table, r, CONFIDENCE) == 0)
 }
 
-// Are they, if the record is unseen?
-fn is_bare_unseen(table: &[u32], r: u32) -> bool
-    requires { ⌜ HasRecord (now table) r ⌝ }
-    ensures { λ b. ⌜ b ≡ isBareUnseen (nodeAt (now (table .entry)) r) ⌝ }
-{
-    (1 <= field(table, r, SEEN)) | is_bare(table, r)
-}
-
-// Is the kind none, dynamic or array?
-fn is_kind(table: &[u32], r: u32) -> bool
-    requires { ⌜ HasRecord (now table) r ⌝ }
-    ensures { λ b. ⌜ b ≡ isKind (nodeAt (now (table .entry)) r) ⌝ }
-{
-    field(table, r, KIND) <= KIND_ARRAY
-}
-
-// Has the record a confidence just where it has a name?
-fn is_confidence(table: &[u32], r: u32) -> bool
-    requires { ⌜ HasRecord (now table) r ⌝ }
-    ensures { λ b. ⌜ b ≡ isConfidence (nodeAt (now (table .entry)) r) ⌝ }
-{
-    let confidence = field(table, r, CONFIDENCE);
-    if field(table, r, NAME) == NO_NAME {
-        return confidence == 0;
-    }
-    (1 <= confidence) & (confidence <= CONFIDENCE_MAX)
-}
-
-// Is the count one for the record's kind?
+// Is the kind none, dynamic or array, with a count for it? Most records have neither kind nor count.
 fn is_count(table: &[u32], r: u32) -> bool
     requires { ⌜ HasRecord (now table) r ⌝ }
-    ensures { λ b. ⌜ b ≡ isCount (nodeAt (now (table .entry)) r) ⌝ }
+    ensures { λ b. ⌜ b ≡ (isKind (nodeAt (now (table .entry)) r) && isCount (nodeAt (now (table .entry)) r)) ⌝ }
 {
     let kind = field(table, r, KIND);
     let count = field(table, r, COUNT);
-    if kind == KIND_ARRAY {
-        return (1 <= count) & (count <= ARRAY_COUNT_MAX);
+    if (kind == 0) & (count == 0) {
+        return true;
     }
     if kind == KIND_DYNAMIC {
         return count <= DYNAMIC_COUNT_MAX;
     }
-    count == 0
+    (kind == KIND_ARRAY) & (1 <= count) & (count <= ARRAY_COUNT_MAX)
 }
 
-// Is the name none, or a code with a width that the ABI knows?
+// Is the name none, with no confidence, or a code with a width that the ABI knows, with one?
 fn is_named(table: &[u32], r: u32) -> bool
     requires { ⌜ HasRecord (now table) r ⌝ }
-    ensures { λ b. ⌜ b ≡ isNamed (nodeAt (now (table .entry)) r) ⌝ }
+    ensures { λ b. ⌜ b ≡ (isConfidence (nodeAt (now (table .entry)) r) && isNamed (nodeAt (now (table .entry)) r)) ⌝ }
 {
     let name = field(table, r, NAME);
-    (name == NO_NAME) | is_name(name)
+    let confidence = field(table, r, CONFIDENCE);
+    if name == NO_NAME {
+        return confidence == 0;
+    }
+    if confidence < 1 {
+        return false;
+    }
+    if CONFIDENCE_MAX < confidence {
+        return false;
+    }
+    is_name(name)
 }
 
-// Does the record pass all of these?
+// Does the record pass all of these? The first test that fails is the last one: in a sound table none does, so that the processor foresees the branches.
 pub fn is_fact(table: &[u32], r: u32) -> bool
     requires { ⌜ HasRecord (now table) r ⌝ }
     ensures { λ b. ⌜ b ≡ isFact (nodeAt (now (table .entry)) r) ⌝ }
 {
-    are_flags(table, r)
-        & is_bare_unseen(table, r)
-        & is_kind(table, r)
-        & is_confidence(table, r)
-        & is_count(table, r)
-        & is_named(table, r)
-}
-
-// Is its parent seen, if the record is?
-pub fn is_under_seen(table: &[u32], r: u32, parent: u32) -> bool
-    requires { ⌜ HasRecord (now table) r ⌝ }
-    requires { ⌜ HasRecord (now table) parent × (parent ≡ parentOf (now table) r) ⌝ }
-    ensures { λ b. ⌜ b ≡ isUnderSeen (now (table .entry)) r ⌝ }
-{
-    (field(table, r, SEEN) == 0) | (field(table, parent, SEEN) == 1)
+    if !are_flags(table, r) {
+        return false;
+    }
+    if field(table, r, SEEN) == 0 {
+        return is_bare(table, r);
+    }
+    if !is_count(table, r) {
+        return false;
+    }
+    is_named(table, r)
 }
 
 // Is record 1 a root: seen, otherwise zero but for child?

@@ -1,6 +1,6 @@
 -- `facts::fact::is_count` meets its contract. Assumes nothing.
 use borrow.Author.Needs.{needs}
-use Rattle.facts.proofs.Tests.{count-array, count-dynamic, count-none}
+use Rattle.facts.proofs.Tests.{count-neither, count-dynamic, count-array}
 use Rattle.facts.proofs.fact.is_count.Statement.{statement}
 use Rattle.facts.proofs.fact.is_count.Tie as tie
 
@@ -10,6 +10,6 @@ is-count-spec =
     (tie.spec
     (λ c κs. search needs)
     (λ c κs. search needs)
-    (λ c. search (count-array, needs))
+    (λ c. search (count-neither, needs))
     (λ c. search (count-dynamic, needs))
-    (λ c. search (count-none, needs)))
+    (λ c. search (count-array, needs)))

@@ -1,6 +1,6 @@
 -- `facts::fact::is_fact` meets its contract. Assumes nothing.
 use borrow.Author.Needs.{needs}
-use Rattle.facts.proofs.Tests.{fact-is}
+use Rattle.facts.proofs.Tests.{fact-flags, fact-unseen, fact-count, fact-named}
 use Rattle.facts.proofs.fact.is_fact.Statement.{statement}
 use Rattle.facts.proofs.fact.is_fact.Tie as tie
 
@@ -9,9 +9,11 @@ is-fact-spec =
     tie.close
     (tie.spec
     (λ c κs. search needs)
+    (λ c. search (fact-flags, needs))
     (λ c κs. search needs)
     (λ c κs. search needs)
+    (λ c. search (fact-unseen, needs))
     (λ c κs. search needs)
+    (λ c. search (fact-count, needs))
     (λ c κs. search needs)
-    (λ c κs. search needs)
-    (λ c. search (fact-is, needs)))
+    (λ c. search (fact-named, needs)))
