@@ -1,5 +1,6 @@
 pub mod Frame
 pub mod Walk
+pub mod RunLaws
 pub mod Tail
 pub mod Spotting
 mod Growth

@@ -7,10 +7,9 @@ ghost use Rattle.facts.specs.State.{nodes};
 ghost use Rattle.paths.specs.Find.{findIn, getMut};
 ghost use Rattle.paths.specs.Make.{missing};
 ghost use Rattle.paths.specs.Shape.{Shaped};
+use crate::insert::find_at;
+use crate::insert::place;
 use facts::field;
-use limits::fields::CHILD;
-use limits::fields::KEY;
-use limits::fields::NEXT;
 use limits::fields::SEEN;
 
 // The child of parent with that key, 0 if there is none: a walk of one chain, up to the first key that is not lower.
@@ -20,18 +19,8 @@ pub fn find_child(table: &[u32], used: u32, parent: u32, key: u32) -> u32
     requires { ⌜ (1 ≤ parent) × (parent ≤ used) ⌝ }
     ensures { λ r. ⌜ (r ≡ findIn (nodes (now (table .entry)) used) parent key) × (r ≤ used) ⌝ }
 {
-    let mut c = field(table, parent, CHILD);
-    while c != 0 {
-        let k = field(table, c, KEY);
-        if k == key {
-            return c;
-        }
-        if key < k {
-            return 0;
-        }
-        c = field(table, c, NEXT);
-    }
-    0
+    let spot = place(table, used, parent, key, 0);
+    find_at(table, used, parent, key, spot.prev, spot.next)
 }
 
 // The Rust's `get_mut`: the child of p with the key k if it is seen, 0 if there is none such.

@@ -36,7 +36,8 @@ fn behind(table: &[u32], used: u32, parent: u32, prev: u32) -> u32
     field(table, prev, NEXT)
 }
 
-// Where a key stands or goes among the children of parent, looked for behind one with a lower key, or from the first on for 0.
+// Where a key stands or goes among the children of parent, looked for behind one with a lower key, or from the first on for 0. A record often stands in the chain right
+// behind the one before it: where it does, the walk counts on instead of waiting for the number that it loads.
 pub fn place(table: &[u32], used: u32, parent: u32, key: u32, after: u32) -> Spot
     requires { ⌜ Linked (now table) used ⌝ }
     requires { ⌜ (1 ≤ parent) × (parent ≤ used) ⌝ }
@@ -44,14 +45,21 @@ pub fn place(table: &[u32], used: u32, parent: u32, key: u32, after: u32) -> Spo
     ensures { λ s. ⌜ Place (now (table .entry)) used parent key (s .prev) (s .next) ⌝ }
 {
     let mut prev = after;
-    let mut c = behind(table, used, parent, after);
-    while c != 0 {
-        let k = field(table, c, KEY);
-        if key <= k {
-            return Spot { prev, next: c };
+    let mut next = behind(table, used, parent, after);
+    while next != 0 {
+        let mut c = next;
+        loop {
+            if key <= field(table, c, KEY) {
+                return Spot { prev, next: c };
+            }
+            prev = c;
+            let follow = c as usize + 1;
+            next = field(table, c, NEXT);
+            if next as usize != follow {
+                break;
+            }
+            c = follow as u32;
         }
-        prev = c;
-        c = field(table, c, NEXT);
     }
     Spot { prev, next: 0 }
 }
