@@ -3,10 +3,11 @@ ghost use Prim.Native.Nat.{_≤_};
 ghost use mathlib.Core.Path.{_≡_};
 ghost use lib.ListN.{length as size};
 ghost use Rattle.limits.specs.Input.{headerWidth};
+ghost use Rattle.trace.specs.Group.{groupRoom};
+ghost use Rattle.printing.specs.Header.{packedIn};
 use crate::Walk;
 use crate::answer::close_trace;
 use crate::answer::refuse_input;
-use crate::group::fetch_numbers;
 use crate::group::take_group;
 use crate::source::Source;
 use crate::source::fetch;
@@ -17,12 +18,19 @@ use limits::input::HEADER_LENGTH;
 use limits::input::HEADER_PACKED;
 use limits::input::HEADER_START;
 use limits::input::HEADER_WIDTH;
+use limits::input::NUMBER_BYTES;
 use limits::input::TRACE_CODE_MAX;
+use trace::GROUP_ROOM;
 use trace::header_fits;
+use trace::number_at;
+use trace::read_numbers;
 use word::numbers::from_numbers;
 
 // Numbers of 1,480 records.
 const TABLE_ROOM: usize = 16280;
+
+// Bytes of the header.
+const HEADER_BYTES: usize = HEADER_WIDTH * NUMBER_BYTES;
 
 fn stop(source: Source) -> Source {
     refuse_input();
@@ -30,17 +38,20 @@ fn stop(source: Source) -> Source {
 }
 
 // "packed flag, packed word (eight numbers, present at flag 0 too)".
-fn packed_of(header: &[u32], flag: u32) -> Packed
+fn packed_of(header: &[u32]) -> Packed
     requires { ⌜ size (now header) ≡ headerWidth ⌝ }
+    ensures { λ r. ⌜ r ≡ packedIn (now (header .entry)) ⌝ }
 {
-    if flag == 0 {
+    if header[HEADER_FLAG] == 0 {
         return Packed::Absent;
     }
     Packed::Word(from_numbers(header, HEADER_PACKED))
 }
 
 // The steps, while they go on.
-fn take_steps(source: Source, table: &mut [u32], code: &[u8], count: u32) -> Walk {
+fn take_steps(source: Source, table: &mut [u32], code: &[u8], group: &mut [u8], count: u32) -> Walk
+    requires { ⌜ size (now group) ≡ groupRoom ⌝ }
+{
     let mut walk = Walk {
         source,
         head: Head { used: 1, active: 1 },
@@ -50,7 +61,7 @@ fn take_steps(source: Source, table: &mut [u32], code: &[u8], count: u32) -> Wal
     while i < count {
         let rest = walk.source;
         let head = walk.head;
-        walk = take_group(rest, head, table, code, i + 1);
+        walk = take_group(rest, head, table, code, group, i + 1);
         if !walk.going {
             return walk;
         }
@@ -76,7 +87,8 @@ fn finish(walk: Walk, table: &mut [u32], code: &[u8], start: u32, packed: Packed
 fn run_steps(source: Source, code: &[u8], count: u32, start: u32, packed: Packed) -> Source {
     let mut table = [0u32; TABLE_ROOM];
     facts::fresh(&mut table);
-    let walk = take_steps(source, &mut table, code, count);
+    let mut group = [0u8; GROUP_ROOM];
+    let walk = take_steps(source, &mut table, code, &mut group, count);
     if !walk.going {
         let rest = walk.source;
         return rest;
@@ -90,13 +102,13 @@ fn run_code(source: Source, code: &mut [u8], start: u32, packed: Packed) -> Sour
     if !read.whole {
         return stop(behind);
     }
-    let mut count = [0u32; 1];
-    let counted = fetch_numbers(behind, &mut count);
+    let mut count = [0u8; NUMBER_BYTES];
+    let counted = fetch(behind, &mut count);
     let rest = counted.source;
     if !counted.whole {
         return stop(rest);
     }
-    run_steps(rest, code, count[0], start, packed)
+    run_steps(rest, code, number_at(&count, 0), start, packed)
 }
 
 // The code, in a slice that is long enough.
@@ -116,18 +128,20 @@ fn run_header(source: Source, header: &[u32]) -> Source
     if !header_fits(length, flag) {
         return stop(source);
     }
-    let packed = packed_of(header, flag);
+    let packed = packed_of(header);
     let mut code = [0u8; TRACE_CODE_MAX];
     run_sized(source, &mut code, length, start, packed)
 }
 
 // Reads one trace and writes its lines; what is left of the source is the answer.
 pub fn print_trace(source: Source) -> Source {
-    let mut header = [0u32; HEADER_WIDTH];
-    let read = fetch_numbers(source, &mut header);
+    let mut bytes = [0u8; HEADER_BYTES];
+    let read = fetch(source, &mut bytes);
     let rest = read.source;
     if !read.whole {
         return stop(rest);
     }
+    let mut header = [0u32; HEADER_WIDTH];
+    read_numbers(&bytes, &mut header);
     run_header(rest, &header)
 }

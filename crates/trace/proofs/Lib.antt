@@ -6,3 +6,4 @@ pub mod NumberLaws
 pub mod EntryLines
 pub mod EntryLoops
 pub mod FitLaws
+pub mod GroupLaws

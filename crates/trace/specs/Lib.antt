@@ -1,5 +1,6 @@
 pub mod Numbers
 pub mod Fits
+pub mod Group
 pub mod Entry
 pub mod Lines
 pub mod Readings

@@ -2,13 +2,18 @@
 // knows of facts or steps, and nothing reads or writes a file.
 mod entry;
 mod fits;
+mod group;
 mod lines;
 mod listing;
 mod numbers;
 
 pub use entry::entry_length;
-pub use fits::group_fits;
 pub use fits::header_fits;
+pub use group::FRONT_BYTES;
+pub use group::GROUP_ROOM;
+pub use group::entry_count;
+pub use group::group_rest;
+pub use group::slot_count;
 pub use lines::LINE_ROOM;
 pub use lines::put_args;
 pub use lines::put_entry;
@@ -18,3 +23,9 @@ pub use listing::put_entries;
 pub use listing::put_list;
 pub use numbers::number_at;
 pub use numbers::read_numbers;
+
+// How many bytes follow the front of a group, or that its counts are over the sizes.
+pub enum GroupRest {
+    Bytes(usize),
+    Over,
+}

@@ -23,9 +23,9 @@ pub fn number_at(bytes: &[u8], at: usize) -> u32
         + wide(bytes[at + 3]) * 0x100_0000
 }
 
-// The bytes, four to a number, fill the slice.
+// The first bytes, four to a number, fill the slice.
 pub fn read_numbers(bytes: &[u8], out: &mut [u32])
-    requires { ⌜ length (now bytes) ≡ numberBytes * length (now out) ⌝ }
+    requires { ⌜ numberBytes * length (now out) ≤ length (now bytes) ⌝ }
     ensures { λ _. ⌜ now (out .exit) ≡ numbersOf (length (now (out .entry))) (now (bytes .entry)) ⌝ }
 {
     let mut i = 0;

@@ -7,10 +7,10 @@ use Rattle.printing.proofs.run.take_steps.Statement.{statement}
 use Rattle.printing.proofs.run.take_steps.Tie as tie
 
 abbrev Inv-loop : tie.InvT-loop
-Inv-loop table₀ code count walk₀ i₀ table walk i = length table ≡ length table₀
+Inv-loop table₀ code group₀ count walk₀ i₀ table group walk i = (length table ≡ length table₀) × (length group ≡ length group₀)
 
 abbrev μ-loop : tie.MeasureT-loop
-μ-loop table₀ code count walk₀ i₀ table walk i = count - i
+μ-loop table₀ code group₀ count walk₀ i₀ table group walk i = count - i
 
 pub take-steps-spec : {M : Type 1} → statement M
 take-steps-spec =
@@ -21,6 +21,8 @@ take-steps-spec =
     (λ c. search needs)
     (λ c. search needs)
     (λ c κs. search needs)
+    (λ c. search needs)
+    (λ c. search needs)
     (λ c. search needs)
     (λ c. search needs)
     (λ c. search needs)

@@ -1,0 +1,3 @@
+pub mod Wholes
+pub mod Putting
+pub mod Outcomes
