@@ -49,12 +49,19 @@ fn packed_of(header: &[u32]) -> Packed
 }
 
 // The steps, while they go on.
-fn take_steps(source: Source, table: &mut [u32], code: &[u8], group: &mut [u8], count: u32) -> Walk
+fn take_steps(
+    source: Source,
+    head: Head,
+    table: &mut [u32],
+    code: &[u8],
+    group: &mut [u8],
+    count: u32,
+) -> Walk
     requires { ⌜ size (now group) ≡ groupRoom ⌝ }
 {
     let mut walk = Walk {
         source,
-        head: Head { used: 1, active: 1 },
+        head,
         going: true,
     };
     let mut i: u32 = 0;
@@ -86,9 +93,10 @@ fn finish(walk: Walk, table: &mut [u32], code: &[u8], start: u32, packed: Packed
 
 fn run_steps(source: Source, code: &[u8], count: u32, start: u32, packed: Packed) -> Source {
     let mut table = [0u32; TABLE_ROOM];
-    facts::fresh(&mut table);
+    let opened = fresh::fresh(Head { used: 0, active: 0 }, &mut table);
+    let head = opened.head;
     let mut group = [0u8; GROUP_ROOM];
-    let walk = take_steps(source, &mut table, code, &mut group, count);
+    let walk = take_steps(source, head, &mut table, code, &mut group, count);
     if !walk.going {
         let rest = walk.source;
         return rest;
