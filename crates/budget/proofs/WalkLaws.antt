@@ -1,5 +1,5 @@
--- Taking the cost of a record and of all below it off what is left, one child a turn. Assumes nothing.
-use Prim.Native.Nat.{ℕ, suc, _+_, _-_, _≤_, _<_}
+-- Taking the cost of all below a record and of the record itself off what is left, one child a turn. Assumes nothing.
+use Prim.Native.Nat.{ℕ, zero, suc, _+_, _-_, _≤_, _<_}
 use mathlib.Core.Path.{_≡_, refl, sym, ap, _∙_}
 use mathlib.Core.Bool.{Bool, true, false, cond, _&&_}
 use mathlib.Core.List.{List, _∷_}
@@ -8,14 +8,15 @@ use lib.Dec.{eqb, leb}
 use lib.ListN.{length}
 use borrow.Author.Tests.{eq-eqb, ne-eqb, le-leb, lt-leb, leb-true, leb-false}
 use Rattle.limits.specs.Limits.{depthMax}
-use Rattle.facts.specs.Table.{childOf, nextOf, seenOf}
-use Rattle.facts.specs.State.{Node, nodes, nodeOf, kidsIn, kidsOf}
+use Rattle.facts.specs.Table.{keyOf, childOf, nextOf, seenOf}
+use Rattle.facts.specs.State.{Node, nodeAt, nodes, nodeOf, kidsIn, kidsOf}
 use Rattle.facts.proofs.Encode.{length-nodes, nodes-get, kids-nodes}
 use Rattle.paths.specs.Shape.{Shaped}
-use Rattle.paths.proofs.Tail.{Tail, More, tail-more, tail-none, tail-start}
-use Rattle.list.specs.Seen.{lastWord}
+use Rattle.paths.proofs.Tail.{Tail, More, tail-more, tail-none, tail-start, tail-kid}
+use Rattle.list.specs.Seen.{seenOnes, lastFrom, lastKey, lastWord}
 use Rattle.list.specs.Walk.{sumOf, allOf, spendBelow, shallowBelow}
-use Rattle.budget.specs.Answer.{leaves, budgetBelow}
+use Rattle.list.proofs.ChildrenLaws.{seen-yes, seen-no}
+use Rattle.budget.specs.Answer.{leaves, budgetBelow, budgetFrom}
 use Rattle.budget.specs.declared.Budget.{Budget}
 use Rattle.budget.specs.declared.Budget.the-variants.{Left, Over}
 use Rattle.budget.proofs.LevelLaws.{spend-is, shallow-is}
@@ -80,11 +81,25 @@ module _ (t : List ℕ) (u : ℕ) where
   abbrev kids-cost : List ℕ → ℕ
   kids-cost ns = sumOf (spendBelow (length (nodes t u)) (nodes t u)) ns
 
--- what is left for the children that are left at c gives the answer for r
-pub record Paying (t : List ℕ) (u r depth left rest c : ℕ) : Type 0 where
+and-last : (b : Bool) → b ≡ b && true
+and-last true = refl
+and-last false = refl
+
+-- the number that stands for an answer
+pub from-some : (x : ℕ) → (x ≡ 0 → ⊥) → budgetFrom x ≡ Left (x - 1)
+from-some zero n = absurd (n refl)
+from-some (suc x) n = let e : x ≡ suc x - 1 = omega arith in ap Left e
+
+from-none : (x : ℕ) → x ≡ 0 → budgetFrom x ≡ Over
+from-none x z = rw z refl
+
+-- what is left for the children that are left at c gives what all of them leave, and the last key so far the last of all
+pub record Paying (t : List ℕ) (u r depth left rest last c : ℕ) : Type 0 where
   pub ns : List ℕ
   pub tail : Tail t u r c ns
-  pub same : leaves (kids-pass t u depth ns) (kids-cost t u ns) rest ≡ budgetBelow (nodes t u) r depth left
+  pub same : leaves (kids-pass t u depth ns) (kids-cost t u ns) rest ≡ leaves (kids-pass t u depth (kidsOf t u r)) (kids-cost t u (kidsOf t u r)) left
+  pub key : lastFrom (nodes t u) last (seenOnes (nodes t u) ns) ≡ lastKey (nodes t u) r
+  pub most : rest ≤ left
 
 module _ (t : List ℕ) (u r depth left : ℕ) (r1 : 1 ≤ r) (ru : r ≤ u) where
   seen-is : nodeOf (nodes t u) r .seen ≡ seenOf t r
@@ -93,82 +108,120 @@ module _ (t : List ℕ) (u r depth left : ℕ) (r1 : 1 ≤ r) (ru : r ≤ u) whe
   rl : r ≤ length (nodes t u)
   rl = let l = length-nodes t u in omega arith
 
-  pub pay-unseen : (v : ℕ) → v ≡ seenOf t r → (v ≡ 1 → ⊥) → Left left ≡ budgetBelow (nodes t u) r depth left
+  pub paying-start : (N c : ℕ) → Shaped t u N → c ≡ childOf t r → Paying t u r depth left left 0 c
+  paying-start N c S e = record {
+    ns = kidsOf t u r;
+    tail = tail-start t u r (S .linked) r1 ru c e;
+    same = refl;
+    key = ap (λ (ms : List ℕ). lastFrom (nodes t u) 0 (seenOnes (nodes t u) ms)) (sym (kids-nodes t u r));
+    most = omega arith;
+  }
+
+  pub pay-unseen : (v : ℕ) → v ≡ seenOf t r → (v ≡ 1 → ⊥) → (budgetFrom (left + 1) ≡ budgetBelow (nodes t u) r depth left) × (left + 1 ≤ left + 1)
   unfolding budgetBelow
   pay-unseen v e n =
       let q = ne-eqb (nodeOf (nodes t u) r .seen) 1 (λ z. n (e ∙ sym seen-is ∙ z)) in
       let a : shallowBelow (length (nodes t u)) (nodes t u) depth r ≡ true = shallow-is (nodes t u) r r1 rl depth ∙ rw q refl in
       let b : spendBelow (length (nodes t u)) (nodes t u) r ≡ 0 = spend-is (nodes t u) r r1 rl ∙ rw q refl in
-      let w : left - 0 ≡ left = omega arith in
-      sym (rw (a, b) (leaves-some 0 left (omega arith) ∙ ap Left w))
+      let w : left + 1 - 1 ≡ left - 0 = omega arith in
+      (from-some (left + 1) (λ z. omega arith) ∙ ap Left w ∙ sym (rw (a, b) (leaves-some 0 left (omega arith))), omega arith)
 
   module _ (v : ℕ) (e : v ≡ seenOf t r) (o : v ≡ 1) where
     seen-one : eqb (nodeOf (nodes t u) r .seen) 1 ≡ true
     seen-one = eq-eqb (nodeOf (nodes t u) r .seen) 1 (seen-is ∙ sym e ∙ o)
 
-    pub pay-deep : depthMax < depth → Over ≡ budgetBelow (nodes t u) r depth left
+    pub pay-deep : depthMax < depth → (Over ≡ budgetBelow (nodes t u) r depth left) × (0 ≤ left + 1)
     unfolding budgetBelow
     pay-deep h =
         let a : shallowBelow (length (nodes t u)) (nodes t u) depth r ≡ false = shallow-is (nodes t u) r r1 rl depth ∙ rw (seen-one, lt-leb depth depthMax h) refl in
-        sym (rw a (leaves-deep (spendBelow (length (nodes t u)) (nodes t u) r) left))
+        (sym (rw a (leaves-deep (spendBelow (length (nodes t u)) (nodes t u) r) left)), omega arith)
 
     module _ (h : depth ≤ depthMax) where
-      -- else the record's own cost is taken, and then that of its children
-      kids-say : budgetBelow (nodes t u) r depth left ≡ leaves (true && kids-pass t u depth (kidsOf t u r)) (suc (lastWord (nodes t u) r) + kids-cost t u (kidsOf t u r)) left
+      -- else the cost of the children is taken, and then the record's own
+      kids-say : budgetBelow (nodes t u) r depth left ≡ leaves (kids-pass t u depth (kidsOf t u r) && true) (kids-cost t u (kidsOf t u r) + suc (lastWord (nodes t u) r)) left
       unfolding budgetBelow
       kids-say =
-          let a : shallowBelow (length (nodes t u)) (nodes t u) depth r ≡ kids-pass t u depth (kidsIn (nodes t u) r) =
-          shallow-is (nodes t u) r r1 rl depth ∙ rw (seen-one, le-leb depth depthMax h) refl in
+          let a : shallowBelow (length (nodes t u)) (nodes t u) depth r ≡ kids-pass t u depth (kidsIn (nodes t u) r) && true =
+          shallow-is (nodes t u) r r1 rl depth ∙ (rw (seen-one, le-leb depth depthMax h) (and-last (kids-pass t u depth (kidsIn (nodes t u) r)))) in
           let b : spendBelow (length (nodes t u)) (nodes t u) r ≡ suc (lastWord (nodes t u) r) + kids-cost t u (kidsIn (nodes t u) r) =
           spend-is (nodes t u) r r1 rl ∙ rw seen-one refl in
-          (λ i. leaves (a i) (b i) left)
-          ∙ ap (λ (ms : List ℕ). leaves (kids-pass t u depth ms) (suc (lastWord (nodes t u) r) + kids-cost t u ms) left) (kids-nodes t u r)
+          let d : suc (lastWord (nodes t u) r) + kids-cost t u (kidsIn (nodes t u) r) ≡ kids-cost t u (kidsIn (nodes t u) r) + suc (lastWord (nodes t u) r) = omega arith in
+          (λ i. leaves (a i) ((b ∙ d) i) left)
+          ∙ ap (λ (ms : List ℕ). leaves (kids-pass t u depth ms && true) (kids-cost t u ms + suc (lastWord (nodes t u) r)) left) (kids-nodes t u r)
 
-      pub pay-over : (last : ℕ) → last ≡ lastWord (nodes t u) r → left ≤ last → Over ≡ budgetBelow (nodes t u) r depth left
-      pay-over last w k =
-          sym (kids-say ∙ leaves-over (kids-pass t u depth (kidsOf t u r)) (kids-cost t u (kidsOf t u r)) left true (suc (lastWord (nodes t u) r))
-          (leaves-none (suc (lastWord (nodes t u) r)) left (omega arith)))
+      -- the children are over
+      pub pay-over : leaves (kids-pass t u depth (kidsOf t u r)) (kids-cost t u (kidsOf t u r)) left ≡ Over → (Over ≡ budgetBelow (nodes t u) r depth left) × (0 ≤ left + 1)
+      pay-over q =
+          (sym (kids-say ∙ leaves-over true (suc (lastWord (nodes t u) r)) left (kids-pass t u depth (kidsOf t u r)) (kids-cost t u (kidsOf t u r)) q), omega arith)
 
-      pub paying-start : (N last rest c : ℕ) → Shaped t u N → last ≡ lastWord (nodes t u) r → last < left → rest ≡ left - last - 1 → c ≡ childOf t r
-          → Paying t u r depth left rest c
-      paying-start N last rest c S w k q x =
-          let y : left - suc (lastWord (nodes t u) r) ≡ rest = omega arith in
-          record {
-            ns = kidsOf t u r;
-            tail = tail-start t u r (S .linked) r1 ru c x;
-            same = sym (kids-say ∙ leaves-left (kids-pass t u depth (kidsOf t u r)) (kids-cost t u (kidsOf t u r)) left true (suc (lastWord (nodes t u) r)) rest
-                (leaves-some (suc (lastWord (nodes t u) r)) left (omega arith) ∙ ap Left y));
-          }
+      -- the walk of the children is done
+      module _ (rest last c : ℕ) (I : Paying t u r depth left rest last c) (z : c ≡ 0) (w : ℕ) (q : w ≡ lastWord (nodes t u) r) where
+        own : budgetBelow (nodes t u) r depth left ≡ leaves true (suc w) rest
+        own =
+            let x : rest - 0 ≡ rest = omega arith in
+            kids-say
+            ∙ leaves-left true (suc (lastWord (nodes t u) r)) left (kids-pass t u depth (kidsOf t u r)) (kids-cost t u (kidsOf t u r)) rest
+            (sym (I .same) ∙ (rw (tail-none t u r c (I .ns) (I .tail) z) (leaves-some 0 rest (omega arith))) ∙ ap Left x)
+            ∙ ap (λ (y : ℕ). leaves true (suc y) rest) (sym q)
 
-module _ (t : List ℕ) (u r depth left rest c : ℕ) (I : Paying t u r depth left rest c) where
-  pub paying-done : c ≡ 0 → Left rest ≡ budgetBelow (nodes t u) r depth left
-  paying-done z =
-      let w : rest - 0 ≡ rest = omega arith in
-      sym (ap Left w) ∙ sym (leaves-some 0 rest (omega arith)) ∙ (rw (tail-none t u r c (I .ns) (I .tail) z) at (I .same))
+        pub pay-own-over : rest ≤ w → (Over ≡ budgetBelow (nodes t u) r depth left) × (0 ≤ left + 1)
+        pay-own-over k = (sym (own ∙ leaves-none (suc w) rest (omega arith)), omega arith)
 
-  module _ (n : c ≡ 0 → ⊥) (b : Budget) (e : b ≡ budgetBelow (nodes t u) c (depth + 1) rest) where
+        pub pay-own : w < rest → (budgetFrom (rest - w) ≡ budgetBelow (nodes t u) r depth left) × (rest - w ≤ left + 1)
+        pay-own k =
+            let m = I .most in
+            let x : rest - w - 1 ≡ rest - suc w = omega arith in
+            (from-some (rest - w) (λ y. omega arith) ∙ ap Left x ∙ sym (own ∙ leaves-some (suc w) rest (omega arith)), omega arith)
+
+module _ (t : List ℕ) (u r depth left rest last c : ℕ) (I : Paying t u r depth left rest last c) where
+  pub paying-last : c ≡ 0 → last ≡ lastKey (nodes t u) r
+  unfolding seenOnes lastFrom
+  paying-last z = rw (tail-none t u r c (I .ns) (I .tail) z) at (I .key)
+
+  module _ (n : c ≡ 0 → ⊥) (x : ℕ) (e : budgetFrom x ≡ budgetBelow (nodes t u) c (depth + 1) rest) where
     split : More t u r c (I .ns)
     split = tail-more t u r c (I .ns) (I .tail) n
 
-    first : leaves (shallowBelow (length (nodes t u)) (nodes t u) (suc depth) c) (spendBelow (length (nodes t u)) (nodes t u) c) rest ≡ b
+    first : leaves (shallowBelow (length (nodes t u)) (nodes t u) (suc depth) c) (spendBelow (length (nodes t u)) (nodes t u) c) rest ≡ budgetFrom x
     unfolding budgetBelow
     first =
         let d : suc depth ≡ depth + 1 = omega arith in
-        ap (λ (x : ℕ). leaves (shallowBelow (length (nodes t u)) (nodes t u) x c) (spendBelow (length (nodes t u)) (nodes t u) c) rest) d ∙ sym e
+        ap (λ (y : ℕ). leaves (shallowBelow (length (nodes t u)) (nodes t u) y c) (spendBelow (length (nodes t u)) (nodes t u) c) rest) d ∙ sym e
 
-    whole : leaves (kids-pass t u depth (c ∷ split .rest)) (kids-cost t u (c ∷ split .rest)) rest ≡ budgetBelow (nodes t u) r depth left
+    whole : leaves (kids-pass t u depth (c ∷ split .rest)) (kids-cost t u (c ∷ split .rest)) rest
+        ≡ leaves (kids-pass t u depth (kidsOf t u r)) (kids-cost t u (kidsOf t u r)) left
     whole = ap (λ (ms : List ℕ). leaves (kids-pass t u depth ms) (kids-cost t u ms) rest) (sym (split .is)) ∙ I .same
 
-    pub paying-over : b ≡ Over → Over ≡ budgetBelow (nodes t u) r depth left
+    pub paying-over : x ≡ 0 → leaves (kids-pass t u depth (kidsOf t u r)) (kids-cost t u (kidsOf t u r)) left ≡ Over
     paying-over w =
-        sym (leaves-over (kids-pass t u depth (split .rest)) (kids-cost t u (split .rest)) rest
-        (shallowBelow (length (nodes t u)) (nodes t u) (suc depth) c) (spendBelow (length (nodes t u)) (nodes t u) c) (first ∙ w)) ∙ whole
+        sym whole ∙ leaves-over (kids-pass t u depth (split .rest)) (kids-cost t u (split .rest)) rest
+        (shallowBelow (length (nodes t u)) (nodes t u) (suc depth) c) (spendBelow (length (nodes t u)) (nodes t u) c) (first ∙ from-none x w)
 
-    pub paying-next : (rest′ c′ : ℕ) → b ≡ Left rest′ → c′ ≡ nextOf t c → Paying t u r depth left rest′ c′
-    paying-next rest′ c′ w x = record {
-      ns = split .rest;
-      tail = rw x (split .tail);
-      same =
-          sym (leaves-left (kids-pass t u depth (split .rest)) (kids-cost t u (split .rest)) rest
-          (shallowBelow (length (nodes t u)) (nodes t u) (suc depth) c) (spendBelow (length (nodes t u)) (nodes t u) c) rest′ (first ∙ w)) ∙ whole;
-    }
+    module _ (some : x ≡ 0 → ⊥) (small : x ≤ rest + 1) (rest′ last′ c′ : ℕ) (p : rest′ ≡ x - 1) (y : c′ ≡ nextOf t c) (v : ℕ) (s : v ≡ seenOf t c) where
+      after : lastFrom (nodes t u) last′ (seenOnes (nodes t u) (split .rest)) ≡ lastKey (nodes t u) r → Paying t u r depth left rest′ last′ c′
+      after k = record {
+        ns = split .rest;
+        tail = rw y (split .tail);
+        same =
+            sym (leaves-left (kids-pass t u depth (split .rest)) (kids-cost t u (split .rest)) rest
+            (shallowBelow (length (nodes t u)) (nodes t u) (suc depth) c) (spendBelow (length (nodes t u)) (nodes t u) c) rest′
+            (first ∙ from-some x some ∙ ap Left (sym p))) ∙ whole;
+        key = k;
+        most = let m = I .most in omega arith;
+      }
+
+      node-is : nodeOf (nodes t u) c ≡ nodeAt t c
+      node-is = let K = tail-kid t u r c (I .ns) (I .tail) n in let a = K .above in nodes-get t u c (omega arith) (K .used)
+
+      pub paying-seen : v ≡ 1 → last′ ≡ keyOf t c → Paying t u r depth left rest′ last′ c′
+      unfolding lastFrom
+      paying-seen o q =
+          let z : seenOnes (nodes t u) (I .ns) ≡ c ∷ seenOnes (nodes t u) (split .rest) =
+          ap (seenOnes (nodes t u)) (split .is) ∙ seen-yes (nodes t u) c (split .rest) (ap (λ (m : Node). m .seen) node-is ∙ sym s ∙ o) in
+          after (ap (λ (k : ℕ). lastFrom (nodes t u) k (seenOnes (nodes t u) (split .rest))) (q ∙ sym (ap (λ (m : Node). m .key) node-is)) ∙ (rw z at (I .key)))
+
+      pub paying-unseen : (v ≡ 1 → ⊥) → last′ ≡ last → Paying t u r depth left rest′ last′ c′
+      paying-unseen o q =
+          let z : seenOnes (nodes t u) (I .ns) ≡ seenOnes (nodes t u) (split .rest) =
+          ap (seenOnes (nodes t u)) (split .is) ∙ seen-no (nodes t u) c (split .rest) (λ a. o (s ∙ sym (ap (λ (m : Node). m .seen) node-is) ∙ a)) in
+          after (ap (λ (k : ℕ). lastFrom (nodes t u) k (seenOnes (nodes t u) (split .rest))) q ∙ (rw z at (I .key)))

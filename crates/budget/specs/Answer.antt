@@ -1,5 +1,5 @@
 -- The answer of `fits_type_budget`: what is left of the budget. Assumes nothing: these are definitions.
-use Prim.Native.Nat.{ℕ, _-_}
+use Prim.Native.Nat.{ℕ, zero, suc, _-_}
 use mathlib.Core.Bool.{Bool, cond, _&&_}
 use mathlib.Core.List.{List}
 use lib.Dec.{leb}
@@ -22,3 +22,8 @@ leaves shallow sum left = cond (shallow && leb sum left) (Left (left - sum)) Ove
 -- what the facts at r and below it leave of a number, r standing at that depth
 unfoldable pub budgetBelow : List Node → ℕ → ℕ → ℕ → Budget
 budgetBelow s r depth left = leaves (shallowBelow (length s) s depth r) (spendBelow (length s) s r) left
+
+-- an answer as one number: one more than what is left, 0 for over
+abbrev pub budgetFrom : ℕ → Budget
+budgetFrom zero = Over
+budgetFrom (suc left) = Left left

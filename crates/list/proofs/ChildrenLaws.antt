@@ -46,11 +46,11 @@ seen-length s (r ∷ rs) = go (eqb (nodeOf s r .seen) 1) refl (seen-length s rs)
     go true e h = rw e (omega arith)
     go false e h = rw e (omega arith)
 
-seen-yes : (s : List Node) (r : ℕ) (rs : List ℕ) → nodeOf s r .seen ≡ 1 → seenOnes s (r ∷ rs) ≡ r ∷ seenOnes s rs
+pub seen-yes : (s : List Node) (r : ℕ) (rs : List ℕ) → nodeOf s r .seen ≡ 1 → seenOnes s (r ∷ rs) ≡ r ∷ seenOnes s rs
 unfolding seenOnes
 seen-yes s r rs e = rw (eq-eqb (nodeOf s r .seen) 1 e) refl
 
-seen-no : (s : List Node) (r : ℕ) (rs : List ℕ) → (nodeOf s r .seen ≡ 1 → ⊥) → seenOnes s (r ∷ rs) ≡ seenOnes s rs
+pub seen-no : (s : List Node) (r : ℕ) (rs : List ℕ) → (nodeOf s r .seen ≡ 1 → ⊥) → seenOnes s (r ∷ rs) ≡ seenOnes s rs
 unfolding seenOnes
 seen-no s r rs n = rw (ne-eqb (nodeOf s r .seen) 1 n) refl
 

@@ -1,2 +1,3 @@
 pub mod ChildrenLaws
+pub mod RunLaws
 pub mod TypeLaws

@@ -15,7 +15,8 @@ use limits::fields::KIND;
 use limits::fields::NEXT;
 use limits::fields::SEEN;
 
-// Unseen records stand in the chain and are passed over.
+// Unseen records stand in the chain and are passed over. A record often stands in the chain right behind the one before it: where it does, the walk counts on
+// instead of waiting for the number that it loads.
 pub fn seen_children(table: &[u32], n: u32, used: u32, r: u32) -> Children
     requires { ⌜ Shaped (now table) used n ⌝ }
     requires { ⌜ (1 ≤ r) × (r ≤ used) ⌝ }
@@ -24,14 +25,22 @@ pub fn seen_children(table: &[u32], n: u32, used: u32, r: u32) -> Children
     let mut count: u32 = 0;
     let mut last_key: u32 = 0;
     let mut last_kind: u32 = 0;
-    let mut c = field(table, r, CHILD);
-    while c != 0 {
-        if field(table, c, SEEN) == 1 {
-            count += 1;
-            last_key = field(table, c, KEY);
-            last_kind = field(table, c, KIND);
+    let mut next = field(table, r, CHILD);
+    while next != 0 {
+        let mut c = next;
+        loop {
+            if field(table, c, SEEN) == 1 {
+                count += 1;
+                last_key = field(table, c, KEY);
+                last_kind = field(table, c, KIND);
+            }
+            let follow = c as usize + 1;
+            next = field(table, c, NEXT);
+            if next as usize != follow {
+                break;
+            }
+            c = follow as u32;
         }
-        c = field(table, c, NEXT);
     }
     Children {
         count,
