@@ -39,7 +39,7 @@ tuple-bound n = go (leb 2 n)
     go true = omega arith
     go false = omega arith
 
-name-bound : (n : Node) → isFact n ≡ true → n .name ≤ 3032
+pub name-bound : (n : Node) → isFact n ≡ true → n .name ≤ 3032
 name-bound n h = go (eqb (n .name) code.noName) refl (fact-parts n h .sixth)
   where
     go : (b : Bool) → eqb (n .name) code.noName ≡ b → b || isName (n .name) ≡ true → n .name ≤ 3032

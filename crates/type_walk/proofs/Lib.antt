@@ -1,4 +1,5 @@
 pub mod PlanLaws
 mod AheadLaws
 mod BoundLaws
+mod LeafLaws
 mod WriteLaws

@@ -1,38 +1,36 @@
 -- The codes of a fact's words, stored one word after the other: what is left to store before each. Assumes nothing.
-use Prim.Native.Nat.{ℕ, zero, suc, _+_, _-_, _*_, _^_, _≤_, _<_}
+use Prim.Native.Nat.{ℕ, suc, _+_, _-_, _*_, _^_, _≤_, _<_}
 use mathlib.Core.Path.{_≡_, refl, sym, ap, _∙_}
-use mathlib.Core.Bool.{Bool, true, false, cond, not, _&&_}
-use mathlib.Core.List.{List, [], _∷_, _++_, append-nil}
+use mathlib.Core.Bool.{Bool, true, false, cond}
+use mathlib.Core.List.{List, [], _∷_, _++_}
 use native.Mathlib.Omega.{arith}
 use native.Mathlib.Nat.{add-zero}
-use native.Mathlib.Numerals.{add-one}
-use lib.Dec.{eqb, leb}
 use lib.ListN.{length, set, length-append}
 use lib.Seq.{sets, length-sets}
-use borrow.Author.Tests.{eqb-false, eq-eqb, ne-eqb}
+use borrow.Author.Tests.{eq-eqb, ne-eqb}
 use Rattle.limits.specs.Codes as code
 use Rattle.limits.specs.Limits.{wordBytes, codesMax}
 use Rattle.spell.proofs.Stores.{sets-append, sets-both}
-use Rattle.types.specs.Tree.{AbiType, AbiTypes, cons}
 use Rattle.types.specs.Codes.{codes, allCodes}
 use Rattle.types.proofs.Sizes.{count-codes}
-use Rattle.facts.specs.Table.{seenOf}
+use Rattle.facts.specs.Table.{keyOf, parentOf, childOf, nextOf, seenOf}
+use Rattle.facts.specs.Links.{Linked}
 use Rattle.facts.specs.Sound.{Sound}
 use Rattle.facts.specs.State.{Node, nodes, nodeOf}
 use Rattle.facts.specs.Fact.{isFact}
 use Rattle.facts.proofs.Encode.{length-nodes, nodes-get}
 use Rattle.facts.proofs.States.{sound-formed}
-use Rattle.paths.specs.Shape.{Shaped}
 use Rattle.paths.specs.Find.{findIn}
 use Rattle.paths.specs.Order.{Ordered}
-use Rattle.paths.specs.Place.{Before}
 use Rattle.paths.proofs.Frame.{sound-shaped}
 use Rattle.paths.proofs.Reach.{shaped-ordered}
-use Rattle.kinds.proofs.ChainLaws.{before-up}
+use Rattle.paths.proofs.Walk.{At, at-start, at-found, at-past, at-none}
+use Rattle.paths.proofs.Finds.{found-is}
 use Rattle.list.specs.Types.{uint256, hasWord, wordsWith, typeOf, wordTypes}
 use Rattle.list.proofs.TypeLaws.{count-words, found-range, has-found}
 use Rattle.type_walk.specs.declared.Plan.{Plan}
-use Rattle.type_walk.specs.Plan.{plan, tupleCode, openPlan, kindPlan, planOf, wordChild, wordPlan, lead, leads}
+use Rattle.type_walk.specs.Walk.{Reached, Writing}
+use Rattle.type_walk.specs.Plan.{wordChild, wordPlan, lead, leads}
 use Rattle.type_walk.proofs.PlanLaws.{lead-some, codes-word}
 use Rattle.type_walk.proofs.BoundLaws.{Bounded, bounded-word, word-there}
 
@@ -90,24 +88,61 @@ child-above s r w c O r1 e n = go (hasWord s r w) refl e
     go true h q = rw q (found-range s O r (wordBytes * w) r1 (has-found s O r w h))
     go false h q = absurd (n q)
 
--- the walk stands before word i: what is left of the codes to store, from here on, gives what all of them give from the start
-pub record Writing (t : List ℕ) (u r start words : ℕ) (types₀ : List ℕ) (at : ℕ) (types : List ℕ) (to prev i : ℕ) : Type 0 where
-  pub most : i ≤ words
-  pub size : length types ≡ length types₀
-  pub before : Before t u r (wordBytes * (start + i)) prev
-  pub left : sets types to (allCodes (wordTypes (nodes t u) r (start + i) (words - i))) ≡ sets types₀ at (allCodes (wordTypes (nodes t u) r start words))
-  pub ends : to + length (allCodes (wordTypes (nodes t u) r (start + i) (words - i))) ≡ at + length (allCodes (wordTypes (nodes t u) r start words))
+-- the child to look at
+module _ (t : List ℕ) (u p : ℕ) (L : Linked t u) (p1 : 1 ≤ p) (pu : p ≤ u) where
+  reached-at : (k c : ℕ) → Reached t u p k c → At t u p k c
+  reached-at k c R = record { low = R .low; below = R .below; first = R .first }
+
+  reached-start : (k c : ℕ) → c ≡ childOf t p → Reached t u p k c
+  reached-start k c e = let A = at-start t u p L p1 pu k c e in record { low = A .low; below = A .below; first = A .first }
+
+  -- it stays before a higher key
+  pub reached-up : (k k′ c : ℕ) → k ≤ k′ → Reached t u p k c → Reached t u p k′ c
+  reached-up k k′ c h R = let b = R .below in record { low = R .low; below = omega arith; first = R .first }
+
+  -- where the chain has ended it stays so
+  pub reached-end : (k k′ c : ℕ) → k ≤ k′ → Reached t u p k c → c ≡ 0 → Reached t u p k′ 0
+  reached-end k k′ c h R z = rw z at (reached-up k k′ c h R)
+
+  -- the next one, behind a lower key
+  pub reached-next : (k c c′ : ℕ) → Reached t u p k c → (c ≡ 0 → ⊥) → keyOf t c < k → c′ ≡ nextOf t c → Reached t u p k c′
+  reached-next k c c′ R n lt e = record { low = keyOf t c + 1; below = omega arith; first = rw e (L .next p c p1 (R .first .kid n)) }
+
+  -- behind a child that was found
+  pub reached-behind : (k c c′ : ℕ) → Reached t u p k c → (c ≡ 0 → ⊥) → keyOf t c ≡ k → c′ ≡ nextOf t c → Reached t u p (k + 1) c′
+  reached-behind k c c′ R n q e = reached-next (k + 1) c c′ (reached-up k (k + 1) c (omega arith) R) n (omega arith) e
+
+  -- whether a child has the key
+  module _ (root : parentOf t 1 ≡ 0) (k c : ℕ) (R : Reached t u p k c) where
+    pub reached-found : (c ≡ 0 → ⊥) → keyOf t c ≡ k → (c ≡ findIn (nodes t u) p k) × (c ≤ u)
+    reached-found n e = found-is t u p k L root p1 c (at-found t u p L p1 pu k c (reached-at k c R) n e)
+
+    pub reached-past : k < keyOf t c → 0 ≡ findIn (nodes t u) p k
+    reached-past lt = found-is t u p k L root p1 0 (at-past t u p L p1 pu k c (reached-at k c R) lt) .0
+
+    pub reached-none : c ≡ 0 → 0 ≡ findIn (nodes t u) p k
+    reached-none z = found-is t u p k L root p1 0 (at-none t u p L p1 pu k c (reached-at k c R) z) .0
+
+pub not-all : (i words : ℕ) → i ≤ words → (i ≡ words → ⊥) → i < words
+not-all i words h n = omega (arith, n)
 
 -- no fewer codes than words
-pub words-codes : (s : List Node) (r w n : ℕ) → n ≤ length (allCodes (wordTypes s r w n))
+words-codes : (s : List Node) (r w n : ℕ) → n ≤ length (allCodes (wordTypes s r w n))
 words-codes s r w n = let e = count-words (typeOf s) s r w n in let h = count-codes (wordTypes s r w n) in omega arith
 
-module _ (t : List ℕ) (u N r start words : ℕ) (S : Sound t u N) (r1 : 1 ≤ r) (ru : r ≤ u) (types₀ : List ℕ) (at : ℕ) where
-  pub writing-start : Writing t u r start words types₀ at types₀ at 0 0
-  writing-start = record {
+-- the codes of a word whose child is c
+pub word-codes : (s : List Node) (r w c : ℕ) (cs : List ℕ) → c ≡ findIn s r (wordBytes * w) → (c ≡ 0 → ⊥) → nodeOf s c .seen ≡ 1 → codes (typeOf s c) ≡ cs
+    → codes (cond (hasWord s r w) (typeOf s (findIn s r (wordBytes * w))) uint256) ≡ cs
+word-codes s r w c cs e n q d =
+    rw (ne-eqb (findIn s r (wordBytes * w)) 0 (λ z. n (e ∙ z)), eq-eqb (nodeOf s (findIn s r (wordBytes * w)) .seen) 1 (ap (λ (x : ℕ). nodeOf s x .seen) (sym e) ∙ q))
+    (ap (λ (x : ℕ). codes (typeOf s x)) (sym e) ∙ d)
+
+module _ (t : List ℕ) (u r start words : ℕ) (types₀ : List ℕ) (at : ℕ) where
+  pub writing-start : (c : ℕ) → Reached t u r (wordBytes * start) c → Writing t u r start words types₀ at types₀ at c 0
+  writing-start c R = record {
     most = omega arith;
     size = refl;
-    before = record { kid = λ n. absurd (n refl); below = λ n. absurd (n refl) };
+    reached = rw (add-zero start) R;
     left = rw (add-zero start, none) refl;
     ends = rw (add-zero start, none) refl;
   }
@@ -115,93 +150,142 @@ module _ (t : List ℕ) (u N r start words : ℕ) (S : Sound t u N) (r1 : 1 ≤ 
       none : words - 0 ≡ words
       none = omega arith
 
-  pub writing-done : (types : List ℕ) (to prev i : ℕ) → Writing t u r start words types₀ at types to prev i → words ≤ i
+  pub writing-done : (types : List ℕ) (to c i : ℕ) → Writing t u r start words types₀ at types to c i → words ≤ i
       → (types ≡ sets types₀ at (allCodes (wordTypes (nodes t u) r start words))) × (to ≡ at + length (allCodes (wordTypes (nodes t u) r start words)))
   unfolding wordsWith allCodes
-  writing-done types to prev i W n =
+  writing-done types to c i W n =
       let m = W .most in
       let z : words - i ≡ 0 = omega arith in
       (rw z at (W .left), sym (add-zero to) ∙ (rw z at (W .ends)))
 
-  -- a word's number is small
-  pub word-small : (types : List ℕ) (to prev i : ℕ) → Writing t u r start words types₀ at types to prev i → i < words → start ≤ 1
-      → at + length (allCodes (wordTypes (nodes t u) r start words)) ≤ codesMax → start + i ≤ codesMax
-  word-small types to prev i W lt s1 room = let h = words-codes (nodes t u) r start words in omega arith
+  -- the numbers of the words are small
+  pub words-small : (types : List ℕ) (to c i : ℕ) → Writing t u r start words types₀ at types to c i → start ≤ 1
+      → at + length (allCodes (wordTypes (nodes t u) r start words)) ≤ codesMax → start + words ≤ codesMax + 1
+  words-small types to c i W s1 room = let h = words-codes (nodes t u) r start words in omega arith
 
+  -- words written behind those written before
+  pub writing-join : (types types′ : List ℕ) (to c i to′ c′ k : ℕ) → Writing t u r start words types₀ at types to c i
+      → Writing t u r (start + i) (words - i) types to types′ to′ c′ k → Writing t u r start words types₀ at types′ to′ c′ (i + k)
+  writing-join types types′ to c i to′ c′ k W X =
+      let a : start + i + k ≡ start + (i + k) = omega arith in
+      let b : words - i - k ≡ words - (i + k) = omega arith in
+      record {
+        most = let m = W .most in let n = X .most in omega arith;
+        size = X .size ∙ W .size;
+        reached = rw a at (X .reached);
+        left = (rw (a, b) at (X .left)) ∙ W .left;
+        ends = (rw (a, b) at (X .ends)) ∙ W .ends;
+      }
+
+  -- one turn: word i, whose codes are cs
+  module _ (types : List ℕ) (to c i : ℕ) (W : Writing t u r start words types₀ at types to c i) (lt : i < words) (cs : List ℕ)
+      (is : codes (cond (hasWord (nodes t u) r (start + i)) (typeOf (nodes t u) (findIn (nodes t u) r (wordBytes * (start + i)))) uint256) ≡ cs) where
+    -- the codes of the words that follow
+    abbrev rest : List ℕ
+    rest = allCodes (wordTypes (nodes t u) r (start + (i + 1)) (words - (i + 1)))
+
+    codes-split : allCodes (wordTypes (nodes t u) r (start + i) (words - i)) ≡ cs ++ rest
+    unfolding wordsWith allCodes
+    codes-split =
+        let l : words - i ≡ suc (words - (i + 1)) = omega arith in
+        let k : start + (i + 1) ≡ suc (start + i) = omega arith in
+        rw (l, k) (ap (λ (ds : List ℕ). ds ++ allCodes (wordTypes (nodes t u) r (suc (start + i)) (words - (i + 1)))) is)
+
+    pub word-length : length (allCodes (wordTypes (nodes t u) r (start + i) (words - i))) ≡ length cs + length rest
+    word-length = ap (λ (ds : List ℕ). length ds) codes-split ∙ length-append cs rest
+
+    pub word-fits : at + length (allCodes (wordTypes (nodes t u) r start words)) ≤ codesMax → to + length cs ≤ codesMax
+    word-fits room = let l = word-length in let d = W .ends in omega arith
+
+    pub writing-next : (types′ : List ℕ) (to′ c′ : ℕ) → types′ ≡ sets types to cs → to′ ≡ to + length cs → Reached t u r (wordBytes * (start + i) + 1) c′
+        → Writing t u r start words types₀ at types′ to′ c′ (i + 1)
+    writing-next types′ to′ c′ e q R = record {
+      most = omega arith;
+      size = ap (λ (x : List ℕ). length x) e ∙ length-sets types to cs ∙ W .size;
+      reached = let b = R .below in record { low = R .low; below = omega arith; first = R .first };
+      left = (λ k. sets (e k) (q k) rest) ∙ sym (sets-append types to cs rest) ∙ ap (sets types to) (sym codes-split) ∙ W .left;
+      ends = let l = word-length in let d = W .ends in omega arith;
+    }
+
+module _ (t : List ℕ) (u N r start words : ℕ) (S : Sound t u N) (r1 : 1 ≤ r) (ru : r ≤ u) (types₀ : List ℕ) (at : ℕ) where
   fact-of : (c : ℕ) → (c ≡ 0 → ⊥) → c ≤ u → isFact (nodeOf (nodes t u) c) ≡ true
   fact-of c n h = sound-formed t u N S .fact c (omega (arith, n)) (let e = length-nodes t u in omega arith)
 
   ordered : Ordered (nodes t u)
   ordered = shaped-ordered t u N (sound-shaped t u N S)
 
-  -- one turn: word i, whose child is c
-  module _ (types : List ℕ) (to prev i : ℕ) (W : Writing t u r start words types₀ at types to prev i) (lt : i < words) (c : ℕ) (e : c ≡ wordChild (nodes t u) r (start + i)) (cu : c ≤ u)
-      (p : Plan) (pe : p ≡ wordPlan (nodes t u) c) where
-    -- the codes of the child's words, and of the words that follow
+  -- the walk of the words begins with the first child
+  pub walk-start : (c : ℕ) → c ≡ childOf t r → Writing t u r start words types₀ at types₀ at c 0
+  walk-start c e = writing-start t u r start words types₀ at c (reached-start t u r (sound-shaped t u N S .linked) r1 ru (wordBytes * start) c e)
+
+  -- word i, which has one code
+  module _ (types : List ℕ) (to c i : ℕ) (W : Writing t u r start words types₀ at types to c i) (lt : i < words) (n : c ≡ 0 → ⊥) (key : keyOf t c ≡ wordBytes * (start + i))
+      (seen : seenOf t c ≡ 1) (x : ℕ) (is : codes (typeOf (nodes t u) c) ≡ x ∷ []) where
+    found : (c ≡ findIn (nodes t u) r (wordBytes * (start + i))) × (c ≤ u)
+    found =
+        let Z = sound-shaped t u N S in
+        reached-found t u r (Z .linked) r1 ru (Z .root-parent) (wordBytes * (start + i)) c (W .reached) n key
+
+    word-is : codes (cond (hasWord (nodes t u) r (start + i)) (typeOf (nodes t u) (findIn (nodes t u) r (wordBytes * (start + i)))) uint256) ≡ x ∷ []
+    word-is = word-codes (nodes t u) r (start + i) c (x ∷ []) (found .0) n (seen-at t u c 1 n (found .1) (sym seen)) is
+
+    pub leaf-fits : at + length (allCodes (wordTypes (nodes t u) r start words)) ≤ codesMax → to + 1 ≤ codesMax
+    leaf-fits room = word-fits t u r start words types₀ at types to c i W lt (x ∷ []) word-is room
+
+    pub leaf-next : (types′ : List ℕ) (to′ c′ : ℕ) → types′ ≡ set types to x → to′ ≡ to + 1 → c′ ≡ nextOf t c → Writing t u r start words types₀ at types′ to′ c′ (i + 1)
+    leaf-next types′ to′ c′ e q d =
+        writing-next t u r start words types₀ at types to c i W lt (x ∷ []) word-is types′ to′ c′ e q
+        (reached-behind t u r (sound-shaped t u N S .linked) r1 ru (wordBytes * (start + i)) c c′ (W .reached) n key d)
+
+  -- word i, whose child is q, by a plan
+  module _ (types : List ℕ) (to c i : ℕ) (W : Writing t u r start words types₀ at types to c i) (lt : i < words) (q : ℕ) (e : q ≡ wordChild (nodes t u) r (start + i)) (qu : q ≤ u)
+      (p : Plan) (pe : p ≡ wordPlan (nodes t u) q) where
+    -- the codes of the child's words
     abbrev inner : List ℕ
-    inner = allCodes (wordTypes (nodes t u) c (p .start) (p .words))
+    inner = allCodes (wordTypes (nodes t u) q (p .start) (p .words))
 
-    abbrev rest : List ℕ
-    rest = allCodes (wordTypes (nodes t u) r (start + (i + 1)) (words - (i + 1)))
+    plan-is : codes (cond (hasWord (nodes t u) r (start + i)) (typeOf (nodes t u) (findIn (nodes t u) r (wordBytes * (start + i)))) uint256) ≡ leads p ++ inner
+    plan-is =
+        codes-word (nodes t u) ordered r (start + i) q r1 (λ x x1 h. sound-formed t u N S .fact x x1 h) e
+        ∙ ap (λ (x : Plan). leads x ++ allCodes (wordTypes (nodes t u) q (x .start) (x .words))) (sym pe)
 
-    codes-split : allCodes (wordTypes (nodes t u) r (start + i) (words - i)) ≡ (leads p ++ inner) ++ rest
-    unfolding wordsWith allCodes
-    codes-split =
-        let l : words - i ≡ suc (words - (i + 1)) = omega arith in
-        let k : start + (i + 1) ≡ suc (start + i) = omega arith in
-        rw (l, k) (ap (λ (cs : List ℕ). cs ++ allCodes (wordTypes (nodes t u) r (suc (start + i)) (words - (i + 1))))
-        (codes-word (nodes t u) ordered r (start + i) c r1 (λ q q1 h. sound-formed t u N S .fact q q1 h) e
-        ∙ ap (λ (x : Plan). leads x ++ allCodes (wordTypes (nodes t u) c (x .start) (x .words))) (sym pe)))
-
-    lengths : length (allCodes (wordTypes (nodes t u) r (start + i) (words - i))) ≡ length (leads p) + length inner + length rest
-    lengths =
-        ap (λ (cs : List ℕ). length cs) codes-split ∙ length-append (leads p ++ inner) rest
-        ∙ ap (λ (n : ℕ). n + length rest) (length-append (leads p) inner)
+    plan-length : length (leads p ++ inner) ≡ length (leads p) + length inner
+    plan-length = length-append (leads p) inner
 
     module _ (room : at + length (allCodes (wordTypes (nodes t u) r start words)) ≤ codesMax) (long : codesMax ≤ length types₀) where
       bounded : Bounded p
-      bounded = rw pe (bounded-word (nodes t u) c (λ n. fact-of c n cu))
+      bounded = rw pe (bounded-word (nodes t u) q (λ n. fact-of q n qu))
 
-      inner-words : p .words ≤ codesMax
-      inner-words = let l = lengths in let d = W .ends in let h = words-codes (nodes t u) c (p .start) (p .words) in omega arith
+      both-fit : to + length (leads p ++ inner) ≤ codesMax
+      both-fit = word-fits t u r start words types₀ at types to c i W lt (leads p ++ inner) plan-is room
 
       pub plan-fits : ((p .first < 2 ^ 16) × (p .second < 2 ^ 16)) × (to + length (leads p) ≤ length types)
       plan-fits =
-          let l = lengths in let d = W .ends in let h = inner-words in let z = W .size in let f = bounded .first in let g = bounded .second in
+          let b = both-fit in let l = plan-length in let h = words-codes (nodes t u) q (p .start) (p .words) in
+          let z = W .size in let f = bounded .first in let g = bounded .second in
           ((omega arith, omega arith), omega arith)
 
       pub inner-fits : (to₁ : ℕ) → to₁ ≡ to + length (leads p) → to₁ + length inner ≤ codesMax
-      inner-fits to₁ q = let l = lengths in let d = W .ends in omega arith
+      inner-fits to₁ d = let b = both-fit in let l = plan-length in omega arith
 
       pub inner-long : (types₁ : List ℕ) → types₁ ≡ sets types to (leads p) → codesMax ≤ length types₁
-      inner-long types₁ q = let l = ap (λ (x : List ℕ). length x) q ∙ length-sets types to (leads p) in let z = W .size in omega arith
+      inner-long types₁ d = let l = ap (λ (x : List ℕ). length x) d ∙ length-sets types to (leads p) in let z = W .size in omega arith
 
       pub inner-start : p .start ≤ 1
       inner-start = bounded .start
 
-    pub inner-child : (p .words ≡ 0 → ⊥) → (r < c) × (c ≤ u)
+    pub inner-child : (p .words ≡ 0 → ⊥) → (r < q) × (q ≤ u)
     inner-child n =
-        let z = word-there (nodes t u) c (λ y. n (ap (λ (x : Plan). x .words) pe ∙ y)) in
-        let A = child-above (nodes t u) r (start + i) c ordered r1 e z in
-        (A .0, cu)
+        let z = word-there (nodes t u) q (λ y. n (ap (λ (x : Plan). x .words) pe ∙ y)) in
+        let A = child-above (nodes t u) r (start + i) q ordered r1 e z in
+        (A .0, qu)
 
-    pub writing-next : (types₁ types₂ : List ℕ) (to₁ to₂ last : ℕ) → types₁ ≡ sets types to (leads p) → to₁ ≡ to + length (leads p)
-        → types₂ ≡ sets types₁ to₁ inner → to₂ ≡ to₁ + length inner → Before t u r (wordBytes * (start + i) + 1) last
-        → Writing t u r start words types₀ at types₂ to₂ last (i + 1)
-    writing-next types₁ types₂ to₁ to₂ last e₁ q₁ e₂ q₂ B = record {
-      most = omega arith;
-      size = ap (λ (x : List ℕ). length x) both ∙ length-sets types to (leads p ++ inner) ∙ W .size;
-      before = before-up t u r (wordBytes * (start + i) + 1) (wordBytes * (start + (i + 1))) last (omega arith) B;
-      left =
-          (λ k. sets (both k) (place k) rest) ∙ sym (sets-append types to (leads p ++ inner) rest) ∙ ap (sets types to) (sym codes-split) ∙ W .left;
-      ends = let l = lengths in let d = W .ends in omega arith;
-    }
-      where
-        both : types₂ ≡ sets types to (leads p ++ inner)
-        both = sets-both types types₁ types₂ to to₁ (leads p) inner e₁ q₁ e₂
-
-        place : to₂ ≡ to + length (leads p ++ inner)
-        place = let n = length-append (leads p) inner in omega arith
+    pub plan-next : (types₁ types₂ : List ℕ) (to₁ to₂ c′ : ℕ) → types₁ ≡ sets types to (leads p) → to₁ ≡ to + length (leads p)
+        → types₂ ≡ sets types₁ to₁ inner → to₂ ≡ to₁ + length inner → Reached t u r (wordBytes * (start + i) + 1) c′
+        → Writing t u r start words types₀ at types₂ to₂ c′ (i + 1)
+    plan-next types₁ types₂ to₁ to₂ c′ e₁ q₁ e₂ q₂ R =
+        writing-next t u r start words types₀ at types to c i W lt (leads p ++ inner) plan-is types₂ to₂ c′
+        (sets-both types types₁ types₂ to to₁ (leads p) inner e₁ q₁ e₂) (let l = plan-length in omega arith) R
 
     -- where no word follows nothing more is stored
     pub inner-none : (types₁ : List ℕ) (to₁ : ℕ) → p .words ≡ 0 → (types₁ ≡ sets types₁ to₁ inner) × (to₁ ≡ to₁ + length inner)

@@ -28,7 +28,7 @@ use list::last_word;
 use list::seen_children;
 
 // The code of uint256.
-const WORD_CODE: u32 = UINT + 256;
+pub const WORD_CODE: u32 = UINT + 256;
 
 // The code of a tuple of so many types, 0 where it is none.
 fn tuple_code(n: u32) -> u32

@@ -1,5 +1,6 @@
 // The type walk: `to_alloy_type`, which writes the codes of the list to a slice. It calls itself for each child, and walks a chain once beside the words.
 mod ahead;
+mod leaves;
 mod write;
 
 pub use write::write_words;
@@ -12,8 +13,15 @@ pub struct Plan {
     pub words: u32,
 }
 
-// A word of a fact: the number of its child, 0 for none, and the last child up to the word's key.
+// A word of a fact: the number of its child, 0 for none, and the child to look at for the next word, 0 for none.
 pub struct Found {
     pub child: u32,
-    pub last: u32,
+    pub next: u32,
+}
+
+// A run of words that are written: how many, the child to look at for the next word, 0 for none, and the index behind their codes.
+pub struct Run {
+    pub words: u32,
+    pub next: u32,
+    pub to: usize,
 }

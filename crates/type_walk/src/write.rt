@@ -7,18 +7,20 @@ ghost use Rattle.limits.specs.Limits.{codesMax, wordBytes};
 ghost use Rattle.facts.specs.State.{nodes};
 ghost use Rattle.facts.specs.Sound.{Sound};
 ghost use Rattle.paths.specs.Shape.{Shaped};
-ghost use Rattle.paths.specs.Place.{Before};
 ghost use Rattle.types.specs.Codes.{allCodes};
 ghost use Rattle.list.specs.Types.{wordTypes};
 ghost use Rattle.type_walk.specs.Plan.{lead, leads, wordChild};
+ghost use Rattle.type_walk.specs.Walk.{Reached};
 use crate::Found;
 use crate::Plan;
 use crate::ahead::word_plan;
+use crate::leaves::write_leaves;
 use facts::field;
 use limits::WORD_BYTES;
+use limits::fields::CHILD;
+use limits::fields::KEY;
+use limits::fields::NEXT;
 use limits::fields::SEEN;
-use paths::find_at;
-use paths::place;
 
 // Stores a code, unless it is 0, and answers the index behind it.
 fn put_code(types: &mut [u16], at: usize, code: u32) -> usize
@@ -42,29 +44,35 @@ fn put_plan(types: &mut [u16], at: usize, plan: Plan) -> usize
     put_code(types, behind, plan.second)
 }
 
-// The seen child at a word, looked for behind prev, a child with a lower key.
-fn find_word(table: &[u32], n: u32, used: u32, r: u32, word: u32, prev: u32) -> Found
+// The seen child at a word, looked for from first on.
+fn find_word(table: &[u32], n: u32, used: u32, r: u32, word: u32, first: u32) -> Found
     requires { ⌜ Shaped (now table) used n ⌝ }
     requires { ⌜ (1 ≤ r) × (r ≤ used) × (word ≤ codesMax) ⌝ }
-    requires { ⌜ Before (now table) used r (wordBytes * word) prev ⌝ }
+    requires { ⌜ Reached (now table) used r (wordBytes * word) first ⌝ }
     ensures { λ f. ⌜ (f .child ≡ wordChild (nodes (now (table .entry)) used) r word) × (f .child ≤ used) ⌝ }
-    ensures { λ f. ⌜ Before (now (table .entry)) used r (wordBytes * word + 1) (f .last) ⌝ }
+    ensures { λ f. ⌜ Reached (now (table .entry)) used r (wordBytes * word + 1) (f .next) ⌝ }
 {
     let key = WORD_BYTES * word;
-    let spot = place(table, used, r, key, prev);
-    let last = spot.prev;
-    let c = find_at(table, used, r, key, last, spot.next);
-    if c == 0 {
-        return Found { child: 0, last };
+    let mut c = first;
+    while c != 0 {
+        let k = field(table, c, KEY);
+        if key < k {
+            return Found { child: 0, next: c };
+        }
+        let next = field(table, c, NEXT);
+        if k == key {
+            if field(table, c, SEEN) == 1 {
+                return Found { child: c, next };
+            }
+            return Found { child: 0, next };
+        }
+        c = next;
     }
-    if field(table, c, SEEN) == 1 {
-        return Found { child: c, last: c };
-    }
-    Found { child: 0, last: c }
+    Found { child: 0, next: 0 }
 }
 
-// Stores the codes of so many words of a fact from one on, and answers the index behind them. A child's number is higher than its parent's, so that fewer numbers are
-// left above it.
+// Stores the codes of so many words of a fact from one on, and answers the index behind them: a run of those with one code, then one of any kind, and so on. A child's
+// number is higher than its parent's, so that fewer numbers are left above it.
 pub fn write_words(
     table: &[u32],
     n: u32,
@@ -83,12 +91,18 @@ pub fn write_words(
     ensures { λ to. ⌜ to ≡ at + length (allCodes (wordTypes (nodes (now (table .entry)) used) r start words)) ⌝ }
 {
     let mut to = at;
-    let mut prev: u32 = 0;
+    let mut c = field(table, r, CHILD);
     let mut i: u32 = 0;
     while i < words {
-        let found = find_word(table, n, used, r, start + i, prev);
+        let run = write_leaves(table, n, used, r, start + i, words - i, c, types, to);
+        i += run.words;
+        to = run.to;
+        if i == words {
+            return to;
+        }
+        let found = find_word(table, n, used, r, start + i, run.next);
         let child = found.child;
-        prev = found.last;
+        c = found.next;
         let plan = word_plan(table, n, used, child);
         let follow = plan.words;
         let from = plan.start;

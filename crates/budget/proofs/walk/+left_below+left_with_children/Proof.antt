@@ -77,12 +77,12 @@ pub +left-below+left-with-children-spec : {M : Type 1} → statement M
     )
     (left-below-at t)
     left-below.Post
-    (λ c κs. let s = c .before in has-field _ _ _ _ 4 (s .pre .1 .0) (s .pre .1 .1 .0) (s .pre .1 .1 .1) (omega arith))
+    (λ c κs. let s = c .before in has-field _ _ _ _ _ (s .pre .1 .0) (s .pre .1 .1 .0) (s .pre .1 .1 .1) (omega arith))
     (λ c. search needs)
     (λ c. let f = c .before in let s = f .before .before in pay-unseen _ _ _ _ _ (s .pre .1 .1 .0) (s .pre .1 .1 .1) _ (f .field .ensures) (c .if1 .taken))
     (λ c. let e1 = c .before in let f = e1 .before in let s = f .before .before in
     pay-deep _ _ _ _ _ (s .pre .1 .1 .0) (s .pre .1 .1 .1) _ (f .field .ensures) (e1 .if1 .left) (c .if2 .taken))
-    (λ c κs. let s = c .before .before .before .before in has-field _ _ _ _ 2 (s .pre .1 .0) (s .pre .1 .1 .0) (s .pre .1 .1 .1) (omega arith))
+    (λ c κs. let s = c .before .before .before .before in has-field _ _ _ _ _ (s .pre .1 .0) (s .pre .1 .1 .0) (s .pre .1 .1 .1) (omega arith))
     (λ c κs. let f2 = c .before in let e2 = f2 .before in let e1 = e2 .before in let f = e1 .before in let s = f .before .before in
     (s .pre .1 .0, ((s .pre .1 .1 .0, s .pre .1 .1 .1), paying-last _ _ _ (s .args .depth) (s .args .left) _ _ _ (paying-start _ _ _ _ _ (s .pre .1 .1 .0) (s .pre .1 .1 .1) _ _ (s .pre .1 .0) (f2 .field2 .ensures)) (c .if3 .taken))))
     (λ c. let w = c .before in let t3 = w .before in let f2 = t3 .before in let e2 = f2 .before in let e1 = e2 .before in let f = e1 .before in let s = f .before .before in
@@ -110,7 +110,7 @@ pub +left-below+left-with-children-spec : {M : Type 1} → statement M
     left-with-children-μ-loop2
     left-with-children-Inv-loop
     left-with-children-μ-loop
-    (λ c κs. let s = c .before in has-field _ _ _ _ 2 (s .pre .1 .0) (s .pre .1 .1 .0 .0) (s .pre .1 .1 .0 .1) (omega arith))
+    (λ c κs. let s = c .before in has-field _ _ _ _ _ (s .pre .1 .0) (s .pre .1 .1 .0 .0) (s .pre .1 .1 .0 .1) (omega arith))
     (λ c. let s = c .before .before in paying-start _ _ _ _ _ (s .pre .1 .1 .0 .0) (s .pre .1 .1 .0 .1) _ _ (s .pre .1 .0) (c .field .ensures))
     (λ c. (c .before .loop .inv, run-start _ _ (c .loop-test .taken)))
     (λ c. let m = c in let s = m .before .before .before .before .before in let d = s .pre .1 .1 .0 .2 in record { fits = omega arith })
@@ -124,15 +124,15 @@ pub +left-below+left-with-children-spec : {M : Type 1} → statement M
     (λ c. let a = c .before in let m = a .before in let s = m .before .before .before .before .before in
     let h = a .left-below .ensures .1 in let l = m .loop2 .inv .0 .most in let f = s .fits .left .fits in record { fits = omega arith })
     (λ c κs. let m = c .before .before in let s = m .before .before .before .before .before in let K = tail-kid _ _ _ _ _ (m .loop2 .inv .0 .tail) (m .loop2 .inv .1 .some) in
-    has-field _ _ _ _ 4 (s .pre .1 .0) (let a = K .above in omega arith) (K .used) (omega arith))
+    has-field _ _ _ _ _ (s .pre .1 .0) (let a = K .above in omega arith) (K .used) (omega arith))
     (λ c κs. let m = c .before .before .before .before in let s = m .before .before .before .before .before in let K = tail-kid _ _ _ _ _ (m .loop2 .inv .0 .tail) (m .loop2 .inv .1 .some) in
-    has-field _ _ _ _ 0 (s .pre .1 .0) (let a = K .above in omega arith) (K .used) (omega arith))
+    has-field _ _ _ _ _ (s .pre .1 .0) (let a = K .above in omega arith) (K .used) (omega arith))
     (λ c. let m = c .before .before .before .before in let s = m .before .before .before .before .before in let K = tail-kid _ _ _ _ _ (m .loop2 .inv .0 .tail) (m .loop2 .inv .1 .some) in
     let a = K .used in let u = s .fits .used .fits in record { fits = omega arith })
     (λ c. let m = c .before .before .before .before in let s = m .before .before .before .before .before in let K = tail-kid _ _ _ _ _ (m .loop2 .inv .0 .tail) (m .loop2 .inv .1 .some) in
     let a = K .used in let u = s .fits .used .fits in record { fits = omega arith })
     (λ c κs. let m = c .before .before .before .before in let s = m .before .before .before .before .before in let K = tail-kid _ _ _ _ _ (m .loop2 .inv .0 .tail) (m .loop2 .inv .1 .some) in
-    has-field _ _ _ _ 3 (s .pre .1 .0) (let a = K .above in omega arith) (K .used) (omega arith))
+    has-field _ _ _ _ _ (s .pre .1 .0) (let a = K .above in omega arith) (K .used) (omega arith))
     (λ c. search needs)
     (λ c. let f = c .before in let g = f .before .before in let e = g .before in let a = e .before in let m = a .before in
     let k = m .before .before .before .before in let s = k .before in

@@ -25,7 +25,7 @@ abbrev μ-loop : tie.MeasureT-loop
 
 field-requires : tie.Need-field-requires Inv-loop2 μ-loop2 Inv-loop μ-loop
 field-requires c κs =
-    let s = c .before in has-field _ _ _ _ 2 (s .pre .0) (s .pre .1 .0) (s .pre .1 .1) (omega arith)
+    let s = c .before in has-field _ _ _ _ _ (s .pre .0) (s .pre .1 .0) (s .pre .1 .1) (omega arith)
 
 loop-holds : tie.Need-loop-holds Inv-loop2 μ-loop2 Inv-loop μ-loop
 loop-holds c =
@@ -40,7 +40,7 @@ field-requires-2 : tie.Need-field-requires-2 Inv-loop2 μ-loop2 Inv-loop μ-loop
 field-requires-2 c κs =
     let m = c in let s = m .before .before .before .before .before in
     let K = tail-kid _ _ _ _ _ (m .loop2 .inv .0 .tail) (m .loop2 .inv .1 .some) in
-    has-field _ _ _ _ 4 (s .pre .0) (let a = K .above in omega arith) (K .used) (omega arith)
+    has-field _ _ _ _ _ (s .pre .0) (let a = K .above in omega arith) (K .used) (omega arith)
 
 add-count : tie.Need-add-count Inv-loop2 μ-loop2 Inv-loop μ-loop
 add-count c =
@@ -52,13 +52,13 @@ field-requires-3 : tie.Need-field-requires-3 Inv-loop2 μ-loop2 Inv-loop μ-loop
 field-requires-3 c κs =
     let m = c .before .before in let s = m .before .before .before .before .before in
     let K = tail-kid _ _ _ _ _ (m .loop2 .inv .0 .tail) (m .loop2 .inv .1 .some) in
-    has-field _ _ _ _ 0 (s .pre .0) (let a = K .above in omega arith) (K .used) (omega arith)
+    has-field _ _ _ _ _ (s .pre .0) (let a = K .above in omega arith) (K .used) (omega arith)
 
 field-requires-4 : tie.Need-field-requires-4 Inv-loop2 μ-loop2 Inv-loop μ-loop
 field-requires-4 c κs =
     let m = c .before .before .before in let s = m .before .before .before .before .before in
     let K = tail-kid _ _ _ _ _ (m .loop2 .inv .0 .tail) (m .loop2 .inv .1 .some) in
-    has-field _ _ _ _ 7 (s .pre .0) (let a = K .above in omega arith) (K .used) (omega arith)
+    has-field _ _ _ _ _ (s .pre .0) (let a = K .above in omega arith) (K .used) (omega arith)
 
 -- its number is small
 cast-follow : tie.Need-cast-follow Inv-loop2 μ-loop2 Inv-loop μ-loop
@@ -77,7 +77,7 @@ field-requires-5 : tie.Need-field-requires-5 Inv-loop2 μ-loop2 Inv-loop μ-loop
 field-requires-5 c κs =
     let m = c .before .before in let s = m .before .before .before .before .before in
     let K = tail-kid _ _ _ _ _ (m .loop2 .inv .0 .tail) (m .loop2 .inv .1 .some) in
-    has-field _ _ _ _ 3 (s .pre .0) (let a = K .above in omega arith) (K .used) (omega arith)
+    has-field _ _ _ _ _ (s .pre .0) (let a = K .above in omega arith) (K .used) (omega arith)
 
 loop-less : tie.Need-loop-less Inv-loop2 μ-loop2 Inv-loop μ-loop
 loop-less c =

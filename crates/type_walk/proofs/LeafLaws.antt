@@ -1,0 +1,119 @@
+-- A fact with no child and no kind has one code: its name, or uint256 without one. Assumes nothing.
+use Prim.Native.Nat.{ℕ, _+_, _*_, _≤_}
+use mathlib.Core.Path.{_≡_, refl, sym, ap, _∙_}
+use mathlib.Core.Bool.{Bool, true, false, cond, not, _&&_, and-eq-true-iff}
+use mathlib.Core.List.{List, [], _∷_, _++_}
+use native.Mathlib.Omega.{arith}
+use lib.Dec.{eqb}
+use lib.ListN.{length}
+use borrow.Author.Tests.{eqb-true, eq-eqb, ne-eqb}
+use Rattle.limits.specs.Codes as code
+use Rattle.limits.specs.Limits.{wordBytes}
+use Rattle.names.specs.Elementary.{codeOf}
+use Rattle.types.specs.Codes.{codes, allCodes}
+use Rattle.facts.specs.Table.{childOf, kindOf, nameOf}
+use Rattle.facts.specs.Sound.{Sound}
+use Rattle.facts.specs.State.{Node, nodeAt, nodes, nodeOf, kidsIn}
+use Rattle.facts.specs.Fact.{isFact}
+use Rattle.facts.proofs.Encode.{length-nodes, nodes-get, kids-nodes}
+use Rattle.facts.proofs.States.{sound-formed}
+use Rattle.facts.proofs.Whole.{fact-parts}
+use Rattle.paths.specs.Shape.{Shaped}
+use Rattle.paths.specs.Find.{findIn}
+use Rattle.paths.proofs.Frame.{sound-shaped}
+use Rattle.paths.proofs.Reach.{shaped-ordered}
+use Rattle.paths.proofs.Tail.{tail-start, tail-none}
+use Rattle.paths.proofs.Walk.{at-start, at-none}
+use Rattle.paths.proofs.Finds.{found-is}
+use Rattle.list.specs.Seen.{seenOnes, childrenIn, isEmpty, lastFrom, lastWord}
+use Rattle.list.specs.Types.{nameHolds, hasWord, wordsWith, typeOf, wordTypes}
+use Rattle.type_walk.specs.declared.Plan.{Plan}
+use Rattle.type_walk.specs.Plan.{plan, wordCode, openPlan, kindPlan, planOf, leads}
+use Rattle.type_walk.proofs.PlanLaws.{lead-some, codes-plan}
+use Rattle.type_walk.proofs.BoundLaws.{name-bound}
+
+not-false : (b : Bool) → not b ≡ false → b ≡ true
+not-false true e = refl
+not-false false e = sym e
+
+-- "Count is 1 to 99 for an array, at most 134,217,727 for dynamic, else 0."
+count-none : (n : Node) → isFact n ≡ true → n .kind ≡ 0 → n .count ≡ 0
+count-none n h e = eqb-true (n .count) 0 (rw e at (fact-parts n h .fifth))
+
+-- the name of such a fact is its type
+leaf-holds : (n : Node) → n .kind ≡ 0 → (n .name ≡ 0 → ⊥) → nameHolds n true ≡ true
+unfolding nameHolds
+leaf-holds n e h = rw e (go (eqb (n .name) code.bytes))
+  where
+    go : (b : Bool) → cond b true (not (eqb (n .name) code.noName) && true && true) ≡ true
+    go true = refl
+    go false = rw (ne-eqb (n .name) code.noName h) refl
+
+leaf-fails : (n : Node) (b : Bool) → n .name ≡ 0 → nameHolds n b ≡ false
+unfolding nameHolds
+leaf-fails n b e = rw e refl
+
+-- what is tested of it
+pub leaf-parts : (v h k : ℕ) → not (eqb v 1 && eqb h 0 && eqb k 0) ≡ false → (v ≡ 1) × (h ≡ 0) × (k ≡ 0)
+leaf-parts v h k e =
+    let a = and-eq-true-iff (eqb v 1 && eqb h 0) (eqb k 0) .0 (not-false (eqb v 1 && eqb h 0 && eqb k 0) e) in
+    let b = and-eq-true-iff (eqb v 1) (eqb h 0) .0 (a .0) in
+    (eqb-true v 1 (b .0), eqb-true h 0 (b .1), eqb-true k 0 (a .1))
+
+module _ (t : List ℕ) (u N c : ℕ) (S : Sound t u N) (c1 : 1 ≤ c) (cu : c ≤ u) where
+  node-is : nodeOf (nodes t u) c ≡ nodeAt t c
+  node-is = nodes-get t u c c1 cu
+
+  long : c ≤ length (nodes t u)
+  long = let l = length-nodes t u in omega arith
+
+  fact-is : isFact (nodeOf (nodes t u) c) ≡ true
+  fact-is = sound-formed t u N S .fact c c1 long
+
+  shaped : Shaped t u N
+  shaped = sound-shaped t u N S
+
+  -- a name is small
+  pub name-small : (v : ℕ) → v ≡ nameOf t c → v ≤ 3032
+  name-small v e = let b = name-bound (nodeOf (nodes t u) c) fact-is in let q = ap (λ (n : Node). n .name) node-is in omega arith
+
+  module _ (v : ℕ) (e : v ≡ nameOf t c) (h k : ℕ) (he : h ≡ childOf t c) (h0 : h ≡ 0) (ke : k ≡ kindOf t c) (k0 : k ≡ 0) where
+    kind-is : nodeOf (nodes t u) c .kind ≡ 0
+    kind-is = ap (λ (n : Node). n .kind) node-is ∙ sym ke ∙ k0
+
+    name-is : nodeOf (nodes t u) c .name ≡ v
+    name-is = ap (λ (n : Node). n .name) node-is ∙ sym e
+
+    no-kids : kidsIn (nodes t u) c ≡ []
+    no-kids = kids-nodes t u c ∙ tail-none t u c (childOf t c) _ (tail-start t u c (shaped .linked) c1 cu (childOf t c) refl) (sym he ∙ h0)
+
+    no-children : childrenIn (nodes t u) c ≡ []
+    unfolding seenOnes
+    no-children = ap (seenOnes (nodes t u)) no-kids
+
+    no-word : hasWord (nodes t u) c 0 ≡ false
+    no-word =
+        let f = found-is t u c (wordBytes * 0) (shaped .linked) (shaped .root-parent) c1 0
+        (at-none t u c (shaped .linked) c1 cu (wordBytes * 0) (childOf t c) (at-start t u c (shaped .linked) c1 cu (wordBytes * 0) (childOf t c) refl) (sym he ∙ h0)) in
+        rw (eq-eqb (findIn (nodes t u) c (wordBytes * 0)) 0 (sym (f .0))) refl
+
+    no-words : lastWord (nodes t u) c ≡ 0
+    unfolding lastWord lastFrom
+    no-words = rw (no-children, count-none (nodeOf (nodes t u) c) fact-is kind-is) refl
+
+    spelt : (p : Plan) → planOf (nodes t u) c ≡ p → codes (typeOf (nodes t u) c) ≡ leads p ++ allCodes (wordTypes (nodes t u) c (p .start) (p .words))
+    spelt p q =
+        codes-plan (nodes t u) (shaped-ordered t u N shaped) c c1 long fact-is
+        ∙ ap (λ (x : Plan). leads x ++ allCodes (wordTypes (nodes t u) c (x .start) (x .words))) q
+
+    pub leaf-named : (v ≡ 0 → ⊥) → codes (typeOf (nodes t u) c) ≡ v ∷ []
+    unfolding planOf wordsWith allCodes
+    leaf-named n =
+        spelt (plan v 0 0 0) (rw (no-children, leaf-holds (nodeOf (nodes t u) c) kind-is (λ z. n (sym name-is ∙ z)), name-is) refl)
+        ∙ rw (lead-some v (omega (arith, n))) refl
+
+    pub leaf-unnamed : v ≡ 0 → codes (typeOf (nodes t u) c) ≡ wordCode ∷ []
+    unfolding planOf kindPlan openPlan wordsWith allCodes codes codeOf
+    leaf-unnamed z =
+        spelt (plan 0 0 0 1) (rw (leaf-fails (nodeOf (nodes t u) c) (isEmpty (childrenIn (nodes t u) c)) (name-is ∙ z), kind-is, no-words) refl)
+        ∙ rw no-word refl

@@ -1,0 +1,105 @@
+// Facts whose type is one code.
+ghost use mathlib.Core.Path.{_≡_};
+ghost use mathlib.Core.List.{[], _∷_};
+ghost use Prim.Native.Nat.{_+_, _*_, _^_, _≤_, _<_};
+ghost use lib.ListN.{length};
+ghost use Rattle.limits.specs.Limits.{codesMax, wordBytes};
+ghost use Rattle.facts.specs.Table.{seenOf};
+ghost use Rattle.facts.specs.State.{nodes};
+ghost use Rattle.facts.specs.Sound.{Sound};
+ghost use Rattle.types.specs.Codes.{codes, allCodes};
+ghost use Rattle.list.specs.Types.{typeOf, wordTypes};
+ghost use Rattle.type_walk.specs.Walk.{Reached, Writing};
+use crate::Run;
+use crate::ahead::WORD_CODE;
+use facts::field;
+use limits::WORD_BYTES;
+use limits::codes::NO_NAME;
+use limits::fields::CHILD;
+use limits::fields::KEY;
+use limits::fields::KIND;
+use limits::fields::NAME;
+use limits::fields::NEXT;
+use limits::fields::SEEN;
+
+// The one code of a seen fact with no child and no kind: its name, or uint256 without one. 0 for any other record.
+fn leaf_code(table: &[u32], n: u32, used: u32, c: u32) -> u32
+    requires { ⌜ Sound (now table) used n ⌝ }
+    requires { ⌜ (1 ≤ c) × (c ≤ used) ⌝ }
+    ensures { λ x. ⌜ ((x ≡ 0 → ⊥) → seenOf (now (table .entry)) c ≡ 1) × ((x ≡ 0 → ⊥) → codes (typeOf (nodes (now (table .entry)) used) c) ≡ x ∷ []) × (x < 2 ^ 16) ⌝ }
+{
+    let seen = field(table, c, SEEN) == 1;
+    let childless = field(table, c, CHILD) == 0;
+    let plain = field(table, c, KIND) == 0;
+    if !(seen & childless & plain) {
+        return 0;
+    }
+    let name = field(table, c, NAME);
+    if name == NO_NAME {
+        return WORD_CODE;
+    }
+    name
+}
+
+// Writes words from start on as long as the child at each has one code and its number follows the one before: the walk counts on instead of waiting for the
+// number that it loads.
+pub fn write_leaves(
+    table: &[u32],
+    n: u32,
+    used: u32,
+    r: u32,
+    start: u32,
+    words: u32,
+    first: u32,
+    types: &mut [u16],
+    at: usize,
+) -> Run
+    requires { ⌜ Sound (now table) used n ⌝ }
+    requires { ⌜ (1 ≤ r) × (r ≤ used) × (start + words ≤ codesMax + 1) ⌝ }
+    requires { ⌜ Reached (now table) used r (wordBytes * start) first ⌝ }
+    requires { ⌜ at + length (allCodes (wordTypes (nodes (now table) used) r start words)) ≤ codesMax ⌝ }
+    requires { ⌜ codesMax ≤ length (now types) ⌝ }
+    ensures { λ w. ⌜ Writing (now (table .entry)) used r start words (now (types .entry)) at (now (types .exit)) (w .to) (w .next) (w .words) ⌝ }
+{
+    let mut to = at;
+    let mut c = first;
+    let mut i: u32 = 0;
+    if c == 0 {
+        return Run {
+            words: i,
+            next: c,
+            to,
+        };
+    }
+    while i < words {
+        if field(table, c, KEY) != WORD_BYTES * (start + i) {
+            return Run {
+                words: i,
+                next: c,
+                to,
+            };
+        }
+        let code = leaf_code(table, n, used, c);
+        if code == 0 {
+            return Run {
+                words: i,
+                next: c,
+                to,
+            };
+        }
+        types[to] = code as u16;
+        to += 1;
+        i += 1;
+        let follow = c as usize + 1;
+        let next = field(table, c, NEXT);
+        if next as usize != follow {
+            return Run { words: i, next, to };
+        }
+        c = follow as u32;
+    }
+    Run {
+        words: i,
+        next: c,
+        to,
+    }
+}
