@@ -54,11 +54,12 @@ unfolding nameHolds
 leaf-fails n b e = rw e refl
 
 -- what is tested of it
-pub leaf-parts : (v h k : ℕ) → not (eqb v 1 && eqb h 0 && eqb k 0) ≡ false → (v ≡ 1) × (h ≡ 0) × (k ≡ 0)
-leaf-parts v h k e =
-    let a = and-eq-true-iff (eqb v 1 && eqb h 0) (eqb k 0) .0 (not-false (eqb v 1 && eqb h 0 && eqb k 0) e) in
-    let b = and-eq-true-iff (eqb v 1) (eqb h 0) .0 (a .0) in
-    (eqb-true v 1 (b .0), eqb-true h 0 (b .1), eqb-true k 0 (a .1))
+pub leaf-parts : (x y v h k : ℕ) → not (eqb x y && eqb v 1 && eqb h 0 && eqb k 0) ≡ false → (x ≡ y) × (v ≡ 1) × (h ≡ 0) × (k ≡ 0)
+leaf-parts x y v h k e =
+    let a = and-eq-true-iff (eqb x y && eqb v 1 && eqb h 0) (eqb k 0) .0 (not-false (eqb x y && eqb v 1 && eqb h 0 && eqb k 0) e) in
+    let b = and-eq-true-iff (eqb x y && eqb v 1) (eqb h 0) .0 (a .0) in
+    let d = and-eq-true-iff (eqb x y) (eqb v 1) .0 (b .0) in
+    (eqb-true x y (d .0), eqb-true v 1 (d .1), eqb-true h 0 (b .1), eqb-true k 0 (a .1))
 
 module _ (t : List ℕ) (u N c : ℕ) (S : Sound t u N) (c1 : 1 ≤ c) (cu : c ≤ u) where
   node-is : nodeOf (nodes t u) c ≡ nodeAt t c

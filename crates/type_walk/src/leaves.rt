@@ -4,7 +4,7 @@ ghost use mathlib.Core.List.{[], _∷_};
 ghost use Prim.Native.Nat.{_+_, _*_, _^_, _≤_, _<_};
 ghost use lib.ListN.{length};
 ghost use Rattle.limits.specs.Limits.{codesMax, wordBytes};
-ghost use Rattle.facts.specs.Table.{seenOf};
+ghost use Rattle.facts.specs.Table.{keyOf, seenOf};
 ghost use Rattle.facts.specs.State.{nodes};
 ghost use Rattle.facts.specs.Sound.{Sound};
 ghost use Rattle.types.specs.Codes.{codes, allCodes};
@@ -22,16 +22,18 @@ use limits::fields::NAME;
 use limits::fields::NEXT;
 use limits::fields::SEEN;
 
-// The one code of a seen fact with no child and no kind: its name, or uint256 without one. 0 for any other record.
-fn leaf_code(table: &[u32], n: u32, used: u32, c: u32) -> u32
+// The one code of a seen fact with that key, no child and no kind: its name, or uint256 without one. 0 for any other record.
+fn leaf_code(table: &[u32], n: u32, used: u32, c: u32, key: u32) -> u32
     requires { ⌜ Sound (now table) used n ⌝ }
     requires { ⌜ (1 ≤ c) × (c ≤ used) ⌝ }
-    ensures { λ x. ⌜ ((x ≡ 0 → ⊥) → seenOf (now (table .entry)) c ≡ 1) × ((x ≡ 0 → ⊥) → codes (typeOf (nodes (now (table .entry)) used) c) ≡ x ∷ []) × (x < 2 ^ 16) ⌝ }
+    ensures { λ x. ⌜ ((x ≡ 0 → ⊥) → (keyOf (now (table .entry)) c ≡ key) × (seenOf (now (table .entry)) c ≡ 1) × (codes (typeOf (nodes (now (table .entry)) used) c) ≡ x ∷ [])) ⌝ }
+    ensures { λ x. ⌜ x < 2 ^ 16 ⌝ }
 {
+    let here = field(table, c, KEY) == key;
     let seen = field(table, c, SEEN) == 1;
     let childless = field(table, c, CHILD) == 0;
     let plain = field(table, c, KIND) == 0;
-    if !(seen & childless & plain) {
+    if !(here & seen & childless & plain) {
         return 0;
     }
     let name = field(table, c, NAME);
@@ -59,47 +61,29 @@ pub fn write_leaves(
     requires { ⌜ Reached (now table) used r (wordBytes * start) first ⌝ }
     requires { ⌜ at + length (allCodes (wordTypes (nodes (now table) used) r start words)) ≤ codesMax ⌝ }
     requires { ⌜ codesMax ≤ length (now types) ⌝ }
-    ensures { λ w. ⌜ Writing (now (table .entry)) used r start words (now (types .entry)) at (now (types .exit)) (w .to) (w .next) (w .words) ⌝ }
+    ensures { λ w. ⌜ Writing (now (table .entry)) used r start words (now (types .entry)) at (now (types .exit)) (w .to) (w .next) (w .done) ⌝ }
 {
+    let mut done: u32 = 0;
+    let mut next = first;
     let mut to = at;
-    let mut c = first;
-    let mut i: u32 = 0;
-    if c == 0 {
-        return Run {
-            words: i,
-            next: c,
-            to,
-        };
+    if next == 0 {
+        return Run { done, next, to };
     }
-    while i < words {
-        if field(table, c, KEY) != WORD_BYTES * (start + i) {
-            return Run {
-                words: i,
-                next: c,
-                to,
-            };
-        }
-        let code = leaf_code(table, n, used, c);
+    while done < words {
+        let code = leaf_code(table, n, used, next, WORD_BYTES * (start + done));
         if code == 0 {
-            return Run {
-                words: i,
-                next: c,
-                to,
-            };
+            return Run { done, next, to };
         }
         types[to] = code as u16;
         to += 1;
-        i += 1;
-        let follow = c as usize + 1;
-        let next = field(table, c, NEXT);
-        if next as usize != follow {
-            return Run { words: i, next, to };
+        done += 1;
+        let follow = next as usize + 1;
+        let behind = field(table, next, NEXT);
+        if behind as usize != follow {
+            next = behind;
+            return Run { done, next, to };
         }
-        c = follow as u32;
+        next = follow as u32;
     }
-    Run {
-        words: i,
-        next: c,
-        to,
-    }
+    Run { done, next, to }
 }

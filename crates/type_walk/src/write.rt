@@ -95,7 +95,7 @@ pub fn write_words(
     let mut i: u32 = 0;
     while i < words {
         let run = write_leaves(table, n, used, r, start + i, words - i, c, types, to);
-        i += run.words;
+        i += run.done;
         to = run.to;
         if i == words {
             return to;
