@@ -5,12 +5,14 @@ use mathlib.Core.Bool.{Bool, true, false, cond}
 use mathlib.Core.List.{List, [], _∷_, _++_}
 use native.Mathlib.Omega.{arith}
 use native.Mathlib.Nat.{add-zero}
+use native.Mathlib.Decide.{ℕ-discrete}
 use lib.ListN.{length, set, length-append}
 use lib.Seq.{sets, length-sets}
 use borrow.Author.Tests.{eq-eqb, ne-eqb}
 use Rattle.limits.specs.Codes as code
 use Rattle.limits.specs.Limits.{wordBytes, codesMax}
 use Rattle.spell.proofs.Stores.{sets-append, sets-both}
+use Rattle.names.specs.Elementary.{codeOf}
 use Rattle.types.specs.Codes.{codes, allCodes}
 use Rattle.types.proofs.Sizes.{count-codes}
 use Rattle.facts.specs.Table.{keyOf, parentOf, childOf, nextOf, seenOf}
@@ -30,7 +32,7 @@ use Rattle.list.specs.Types.{uint256, hasWord, wordsWith, typeOf, wordTypes}
 use Rattle.list.proofs.TypeLaws.{count-words, found-range, has-found}
 use Rattle.type_walk.specs.declared.Plan.{Plan}
 use Rattle.type_walk.specs.Walk.{Reached, Writing}
-use Rattle.type_walk.specs.Plan.{wordChild, wordPlan, lead, leads}
+use Rattle.type_walk.specs.Plan.{wordCode, wordChild, wordPlan, lead, leads}
 use Rattle.type_walk.proofs.PlanLaws.{lead-some, codes-word}
 use Rattle.type_walk.proofs.BoundLaws.{Bounded, bounded-word, word-there}
 
@@ -123,12 +125,25 @@ module _ (t : List ℕ) (u p : ℕ) (L : Linked t u) (p1 : 1 ≤ p) (pu : p ≤ 
     pub reached-none : c ≡ 0 → 0 ≡ findIn (nodes t u) p k
     reached-none z = found-is t u p k L root p1 0 (at-none t u p L p1 pu k c (reached-at k c R) z) .0
 
+    -- with the key of c, if there is one, at end
+    reached-before : (end : ℕ) → ((c ≡ 0 → ⊥) → end ≡ keyOf t c) → k < end → 0 ≡ findIn (nodes t u) p k
+    reached-before end e lt = go (ℕ-discrete c 0)
+      where
+        go : Dec (c ≡ 0) → 0 ≡ findIn (nodes t u) p k
+        go (yes z) = reached-none z
+        go (no n) = reached-past (let q = e n in omega arith)
+
 pub not-all : (i words : ℕ) → i ≤ words → (i ≡ words → ⊥) → i < words
 not-all i words h n = omega (arith, n)
 
 -- no fewer codes than words
 words-codes : (s : List Node) (r w n : ℕ) → n ≤ length (allCodes (wordTypes s r w n))
 words-codes s r w n = let e = count-words (typeOf s) s r w n in let h = count-codes (wordTypes s r w n) in omega arith
+
+-- the codes of a word that has no child
+no-codes : (s : List Node) (r w : ℕ) → 0 ≡ findIn s r (wordBytes * w) → codes (cond (hasWord s r w) (typeOf s (findIn s r (wordBytes * w))) uint256) ≡ wordCode ∷ []
+unfolding codes codeOf
+no-codes s r w e = rw (eq-eqb (findIn s r (wordBytes * w)) 0 (sym e)) refl
 
 -- the codes of a word whose child is c
 pub word-codes : (s : List Node) (r w c : ℕ) (cs : List ℕ) → c ≡ findIn s r (wordBytes * w) → (c ≡ 0 → ⊥) → nodeOf s c .seen ≡ 1 → codes (typeOf s c) ≡ cs
@@ -217,6 +232,22 @@ module _ (t : List ℕ) (u N r start words : ℕ) (S : Sound t u N) (r1 : 1 ≤ 
   -- the walk of the words begins with the first child
   pub walk-start : (c : ℕ) → c ≡ childOf t r → Writing t u r start words types₀ at types₀ at c 0
   walk-start c e = writing-start t u r start words types₀ at c (reached-start t u r (sound-shaped t u N S .linked) r1 ru (wordBytes * start) c e)
+
+  -- word i, which stands before the child to look at
+  module _ (types : List ℕ) (to c i : ℕ) (W : Writing t u r start words types₀ at types to c i) (lt : i < words) (end : ℕ) (e : (c ≡ 0 → ⊥) → end ≡ keyOf t c)
+      (low : wordBytes * (start + i) < end) where
+    gap-is : codes (cond (hasWord (nodes t u) r (start + i)) (typeOf (nodes t u) (findIn (nodes t u) r (wordBytes * (start + i)))) uint256) ≡ wordCode ∷ []
+    gap-is =
+        let Z = sound-shaped t u N S in
+        no-codes (nodes t u) r (start + i) (reached-before t u r (Z .linked) r1 ru (Z .root-parent) (wordBytes * (start + i)) c (W .reached) end e low)
+
+    pub gap-fits : at + length (allCodes (wordTypes (nodes t u) r start words)) ≤ codesMax → to + 1 ≤ codesMax
+    gap-fits room = word-fits t u r start words types₀ at types to c i W lt (wordCode ∷ []) gap-is room
+
+    pub gap-next : (types′ : List ℕ) (to′ : ℕ) → types′ ≡ set types to wordCode → to′ ≡ to + 1 → Writing t u r start words types₀ at types′ to′ c (i + 1)
+    gap-next types′ to′ d q =
+        writing-next t u r start words types₀ at types to c i W lt (wordCode ∷ []) gap-is types′ to′ c d q
+        (reached-up t u r (sound-shaped t u N S .linked) r1 ru (wordBytes * (start + i)) (wordBytes * (start + i) + 1) c (omega arith) (W .reached))
 
   -- word i, which has one code
   module _ (types : List ℕ) (to c i : ℕ) (W : Writing t u r start words types₀ at types to c i) (lt : i < words) (n : c ≡ 0 → ⊥) (key : keyOf t c ≡ wordBytes * (start + i))

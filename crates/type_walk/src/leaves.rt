@@ -1,4 +1,4 @@
-// Facts whose type is one code.
+// Words that have one code.
 ghost use mathlib.Core.Path.{_≡_};
 ghost use mathlib.Core.List.{[], _∷_};
 ghost use Prim.Native.Nat.{_+_, _*_, _^_, _≤_, _<_};
@@ -22,6 +22,9 @@ use limits::fields::NAME;
 use limits::fields::NEXT;
 use limits::fields::SEEN;
 
+// A key that no record has and no word comes to.
+const KEY_END: u32 = 4294967295;
+
 // The one code of a seen fact with that key, no child and no kind: its name, or uint256 without one. 0 for any other record.
 fn leaf_code(table: &[u32], n: u32, used: u32, c: u32, key: u32) -> u32
     requires { ⌜ Sound (now table) used n ⌝ }
@@ -43,9 +46,53 @@ fn leaf_code(table: &[u32], n: u32, used: u32, c: u32, key: u32) -> u32
     name
 }
 
-// Writes words from start on as long as the child at each has one code and its number follows the one before: the walk counts on instead of waiting for the
+// Writes the words from start on that stand before the child to look at: each has uint256.
+fn write_gap(
+    table: &[u32],
+    n: u32,
+    used: u32,
+    r: u32,
+    start: u32,
+    words: u32,
+    first: u32,
+    types: &mut [u16],
+    at: usize,
+) -> Run
+    requires { ⌜ Sound (now table) used n ⌝ }
+    requires { ⌜ (1 ≤ r) × (r ≤ used) × (start + words ≤ codesMax + 1) ⌝ }
+    requires { ⌜ Reached (now table) used r (wordBytes * start) first ⌝ }
+    requires { ⌜ at + length (allCodes (wordTypes (nodes (now table) used) r start words)) ≤ codesMax ⌝ }
+    requires { ⌜ codesMax ≤ length (now types) ⌝ }
+    ensures { λ w. ⌜ Writing (now (table .entry)) used r start words (now (types .entry)) at (now (types .exit)) (w .to) (w .next) (w .done) ⌝ }
+{
+    let mut done: u32 = 0;
+    let mut to = at;
+    let mut end = KEY_END;
+    if first != 0 {
+        end = field(table, first, KEY);
+    }
+    while done < words {
+        if end <= WORD_BYTES * (start + done) {
+            return Run {
+                done,
+                next: first,
+                to,
+            };
+        }
+        types[to] = WORD_CODE as u16;
+        to += 1;
+        done += 1;
+    }
+    Run {
+        done,
+        next: first,
+        to,
+    }
+}
+
+// Writes words from start on, as long as the child at each has one code and its number follows the one before: the walk counts on instead of waiting for the
 // number that it loads.
-pub fn write_leaves(
+fn write_leaves(
     table: &[u32],
     n: u32,
     used: u32,
@@ -86,4 +133,43 @@ pub fn write_leaves(
         next = follow as u32;
     }
     Run { done, next, to }
+}
+
+// Writes words from start on: those before the child to look at, and then a run of such children.
+pub fn write_run(
+    table: &[u32],
+    n: u32,
+    used: u32,
+    r: u32,
+    start: u32,
+    words: u32,
+    first: u32,
+    types: &mut [u16],
+    at: usize,
+) -> Run
+    requires { ⌜ Sound (now table) used n ⌝ }
+    requires { ⌜ (1 ≤ r) × (r ≤ used) × (start + words ≤ codesMax + 1) ⌝ }
+    requires { ⌜ Reached (now table) used r (wordBytes * start) first ⌝ }
+    requires { ⌜ at + length (allCodes (wordTypes (nodes (now table) used) r start words)) ≤ codesMax ⌝ }
+    requires { ⌜ codesMax ≤ length (now types) ⌝ }
+    ensures { λ w. ⌜ Writing (now (table .entry)) used r start words (now (types .entry)) at (now (types .exit)) (w .to) (w .next) (w .done) ⌝ }
+{
+    let gap = write_gap(table, n, used, r, start, words, first, types, at);
+    let skipped = gap.done;
+    let run = write_leaves(
+        table,
+        n,
+        used,
+        r,
+        start + skipped,
+        words - skipped,
+        gap.next,
+        types,
+        gap.to,
+    );
+    Run {
+        done: skipped + run.done,
+        next: run.next,
+        to: run.to,
+    }
 }

@@ -14,7 +14,7 @@ ghost use Rattle.type_walk.specs.Walk.{Reached};
 use crate::Found;
 use crate::Plan;
 use crate::ahead::word_plan;
-use crate::leaves::write_leaves;
+use crate::leaves::write_run;
 use facts::field;
 use limits::WORD_BYTES;
 use limits::fields::CHILD;
@@ -94,7 +94,7 @@ pub fn write_words(
     let mut c = field(table, r, CHILD);
     let mut i: u32 = 0;
     while i < words {
-        let run = write_leaves(table, n, used, r, start + i, words - i, c, types, to);
+        let run = write_run(table, n, used, r, start + i, words - i, c, types, to);
         i += run.done;
         to = run.to;
         if i == words {

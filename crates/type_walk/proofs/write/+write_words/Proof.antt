@@ -14,7 +14,7 @@ use Rattle.type_walk.proofs.write.write_words.Kinds as write-words-kind
 use Rattle.type_walk.proofs.write.+write_words.Lts-write_words as write-words-lts
 use Rattle.facts.proofs.field.Reads as field-reads
 use Rattle.type_walk.proofs.ahead.word_plan.Reads as word-plan-reads
-use Rattle.type_walk.proofs.leaves.write_leaves.Reads as write-leaves-reads
+use Rattle.type_walk.proofs.leaves.write_run.Reads as write-run-reads
 use Rattle.type_walk.proofs.write.find_word.Reads as find-word-reads
 use Rattle.type_walk.proofs.write.put_plan.Reads as put-plan-reads
 use Rattle.type_walk.proofs.write.+write_words.{statement}
@@ -41,8 +41,8 @@ pub +write-words-spec : {M : Type 1} → statement M
 +write-words-spec = close μ-write-words λ t. write-words-lts.spec (
   field-reads.Asked,
   field-reads.Learnt,
-  write-leaves-reads.Asked,
-  write-leaves-reads.Learnt,
+  write-run-reads.Asked,
+  write-run-reads.Learnt,
   find-word-reads.Asked,
   find-word-reads.Learnt,
   word-plan-reads.Asked,
@@ -65,24 +65,24 @@ pub +write-words-spec : {M : Type 1} → statement M
     let h = words-small _ _ _ _ _ _ _ _ _ _ _ (l .loop .inv) (s .pre .1 .1 .0 .2) (s .pre .1 .1 .1 .0) in let m = l .loop .inv .most in let d = l .loop .inv .ends in let z = l .loop .inv .size in let a = s .pre .1 .1 .1 .0 in let b = s .pre .1 .1 .1 .1 in
     (s .pre .1 .0, ((s .pre .1 .1 .0 .0, s .pre .1 .1 .0 .1, omega arith), (l .loop .inv .reached, (omega arith, omega arith)))))
     (λ c. let k = c in let w = k .before .before .before in let i = w .before .before in let l = i .before in let s = l .before .before .before .before in
-    let J = writing-join _ _ _ _ _ _ _ _ _ _ _ _ _ _ _ (l .loop .inv) (w .write-leaves .ensures) in let m = J .most in let u = s .fits .words .fits in record { fits = omega arith })
+    let J = writing-join _ _ _ _ _ _ _ _ _ _ _ _ _ _ _ (l .loop .inv) (w .write-run .ensures) in let m = J .most in let u = s .fits .words .fits in record { fits = omega arith })
     (λ c. let k = c .before in let w = k .before .before .before in let i = w .before .before in let l = i .before in let s = l .before .before .before .before in
-    let J = writing-join _ _ _ _ _ _ _ _ _ _ _ _ _ _ _ (l .loop .inv) (w .write-leaves .ensures) in J .size)
+    let J = writing-join _ _ _ _ _ _ _ _ _ _ _ _ _ _ _ (l .loop .inv) (w .write-run .ensures) in J .size)
     (λ c. let k = c .before in let w = k .before .before .before in let i = w .before .before in let l = i .before in let s = l .before .before .before .before in
-    let J = writing-join _ _ _ _ _ _ _ _ _ _ _ _ _ _ _ (l .loop .inv) (w .write-leaves .ensures) in let a = c .if1 .taken in writing-done _ _ _ _ _ _ _ _ _ _ _ J (omega arith))
+    let J = writing-join _ _ _ _ _ _ _ _ _ _ _ _ _ _ _ (l .loop .inv) (w .write-run .ensures) in let a = c .if1 .taken in writing-done _ _ _ _ _ _ _ _ _ _ _ J (omega arith))
     (λ c. let e = c in let k = e .before in let w = k .before .before .before in let i = w .before .before in let l = i .before in let s = l .before .before .before .before in
-    let J = writing-join _ _ _ _ _ _ _ _ _ _ _ _ _ _ _ (l .loop .inv) (w .write-leaves .ensures) in let lt = not-all _ _ (J .most) (e .if1 .left) in
+    let J = writing-join _ _ _ _ _ _ _ _ _ _ _ _ _ _ _ (l .loop .inv) (w .write-run .ensures) in let lt = not-all _ _ (J .most) (e .if1 .left) in
     let h = words-small _ _ _ _ _ _ _ _ _ _ _ (l .loop .inv) (s .pre .1 .1 .0 .2) (s .pre .1 .1 .1 .0) in record { fits = omega arith })
     (λ c κs. let e = c in let k = e .before in let w = k .before .before .before in let i = w .before .before in let l = i .before in let s = l .before .before .before .before in
-    let J = writing-join _ _ _ _ _ _ _ _ _ _ _ _ _ _ _ (l .loop .inv) (w .write-leaves .ensures) in let lt = not-all _ _ (J .most) (e .if1 .left) in
+    let J = writing-join _ _ _ _ _ _ _ _ _ _ _ _ _ _ _ (l .loop .inv) (w .write-run .ensures) in let lt = not-all _ _ (J .most) (e .if1 .left) in
     let h = words-small _ _ _ _ _ _ _ _ _ _ _ (l .loop .inv) (s .pre .1 .1 .0 .2) (s .pre .1 .1 .1 .0) in (sound-shaped _ _ _ (s .pre .1 .0), ((s .pre .1 .1 .0 .0, s .pre .1 .1 .0 .1, omega arith), J .reached)))
     (λ c κs. let f = c in let e = f .before in let k = e .before in let w = k .before .before .before in let i = w .before .before in let l = i .before in let s = l .before .before .before .before in
-    let J = writing-join _ _ _ _ _ _ _ _ _ _ _ _ _ _ _ (l .loop .inv) (w .write-leaves .ensures) in let lt = not-all _ _ (J .most) (e .if1 .left) in (s .pre .1 .0, f .find-word .ensures .0 .1))
+    let J = writing-join _ _ _ _ _ _ _ _ _ _ _ _ _ _ _ (l .loop .inv) (w .write-run .ensures) in let lt = not-all _ _ (J .most) (e .if1 .left) in (s .pre .1 .0, f .find-word .ensures .0 .1))
     (λ c κs. let p = c .before in let f = p .before in let e = f .before in let k = e .before in let w = k .before .before .before in let i = w .before .before in let l = i .before in let s = l .before .before .before .before in
-    let J = writing-join _ _ _ _ _ _ _ _ _ _ _ _ _ _ _ (l .loop .inv) (w .write-leaves .ensures) in let lt = not-all _ _ (J .most) (e .if1 .left) in
+    let J = writing-join _ _ _ _ _ _ _ _ _ _ _ _ _ _ _ (l .loop .inv) (w .write-run .ensures) in let lt = not-all _ _ (J .most) (e .if1 .left) in
     plan-fits _ _ _ _ _ _ (s .pre .1 .0) (s .pre .1 .1 .0 .0) (s .pre .1 .1 .0 .1) _ _ _ _ _ _ J lt _ (f .find-word .ensures .0 .0) (f .find-word .ensures .0 .1) _ (p .word-plan .ensures) (s .pre .1 .1 .1 .0) (s .pre .1 .1 .1 .1))
     (λ c κs. let b = c .before in let q = b .before .before .before in let p = q .before .before in let f = p .before in let e = f .before in let k = e .before in let w = k .before .before .before in let i = w .before .before in let l = i .before in let s = l .before .before .before .before in
-    let J = writing-join _ _ _ _ _ _ _ _ _ _ _ _ _ _ _ (l .loop .inv) (w .write-leaves .ensures) in let lt = not-all _ _ (J .most) (e .if1 .left) in
+    let J = writing-join _ _ _ _ _ _ _ _ _ _ _ _ _ _ _ (l .loop .inv) (w .write-run .ensures) in let lt = not-all _ _ (J .most) (e .if1 .left) in
     let I = inner-child _ _ _ _ _ _ (s .pre .1 .0) (s .pre .1 .1 .0 .0) (s .pre .1 .1 .0 .1) _ _ _ _ _ _ J lt _ (f .find-word .ensures .0 .0) (f .find-word .ensures .0 .1) _ (p .word-plan .ensures) (b .if2 .taken) in
     let m = s .pre .0 in let a = I .0 in let d = I .1 in (
       omega arith,
@@ -98,11 +98,11 @@ pub +write-words-spec : {M : Type 1} → statement M
       ),
     ))
     (λ c. let q = c .before .before .before in let p = q .before .before in let f = p .before in let e = f .before in let k = e .before in let w = k .before .before .before in let i = w .before .before in let l = i .before in let s = l .before .before .before .before in
-    let J = writing-join _ _ _ _ _ _ _ _ _ _ _ _ _ _ _ (l .loop .inv) (w .write-leaves .ensures) in let lt = not-all _ _ (J .most) (e .if1 .left) in let u = s .fits .words .fits in record { fits = omega arith })
+    let J = writing-join _ _ _ _ _ _ _ _ _ _ _ _ _ _ _ (l .loop .inv) (w .write-run .ensures) in let lt = not-all _ _ (J .most) (e .if1 .left) in let u = s .fits .words .fits in record { fits = omega arith })
     (λ c. let q = c .before .before .before in let p = q .before .before in let f = p .before in let e = f .before in let k = e .before in let w = k .before .before .before in let i = w .before .before in let l = i .before in let s = l .before .before .before .before in
-    let J = writing-join _ _ _ _ _ _ _ _ _ _ _ _ _ _ _ (l .loop .inv) (w .write-leaves .ensures) in let lt = not-all _ _ (J .most) (e .if1 .left) in let t = i .loop-test .taken in omega arith)
+    let J = writing-join _ _ _ _ _ _ _ _ _ _ _ _ _ _ _ (l .loop .inv) (w .write-run .ensures) in let lt = not-all _ _ (J .most) (e .if1 .left) in let t = i .loop-test .taken in omega arith)
     (λ c. let q = c .before .before .before in let p = q .before .before in let f = p .before in let e = f .before in let k = e .before in let w = k .before .before .before in let i = w .before .before in let l = i .before in let s = l .before .before .before .before in
-    let J = writing-join _ _ _ _ _ _ _ _ _ _ _ _ _ _ _ (l .loop .inv) (w .write-leaves .ensures) in let lt = not-all _ _ (J .most) (e .if1 .left) in
+    let J = writing-join _ _ _ _ _ _ _ _ _ _ _ _ _ _ _ (l .loop .inv) (w .write-run .ensures) in let lt = not-all _ _ (J .most) (e .if1 .left) in
     ⊎-elim
     (λ v. plan-next _ _ _ _ _ _ (s .pre .1 .0) (s .pre .1 .1 .0 .0) (s .pre .1 .1 .0 .1) _ _ _ _ _ _ J lt _ (f .find-word .ensures .0 .0) (f .find-word .ensures .0 .1) _ (p .word-plan .ensures) _ _ _ _ _ (q .put-plan .ensures .0) (q .put-plan .ensures .1)
     (v .5 ∙ v .2 .ensures .0) (v .6 ∙ v .2 .ensures .1) (f .find-word .ensures .1))
