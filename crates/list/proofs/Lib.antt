@@ -1,3 +1,2 @@
 pub mod ChildrenLaws
-pub mod RunLaws
 pub mod TypeLaws

@@ -22,7 +22,7 @@ use limits::fields::NAME;
 use limits::fields::NEXT;
 use limits::fields::SEEN;
 
-// A key that no record has and no word comes to.
+// A key that no word comes to: where the words end if no child is left.
 const KEY_END: u32 = 4294967295;
 
 // The one code of a seen fact with that key, no child and no kind: its name, or uint256 without one. 0 for any other record.

@@ -8,7 +8,7 @@ use borrow.Author.Needs.{needs}
 use Rattle.facts.specs.Table.{keyOf}
 use Rattle.paths.proofs.Walk.{left as keys-left}
 use Rattle.paths.proofs.Tail.{has-field, key-fits, next-less, tail-kid}
-use Rattle.list.proofs.RunLaws.{Run, run-start, run-next, run-end}
+use Rattle.paths.proofs.RunLaws.{Run, run-start, run-next, run-end}
 use Rattle.budget.proofs.WalkLaws.{Paying, pay-unseen, pay-deep, pay-over, pay-own-over, pay-own, paying-start, paying-last, paying-over, paying-seen, paying-unseen}
 use borrow.Fn.Kinds.{In}
 use borrow.Fn.PlainCycle.{Measures, is, falls, and}

@@ -7,7 +7,7 @@ use Rattle.facts.specs.Table.{keyOf}
 use Rattle.paths.proofs.Walk.{left as keys-left}
 use Rattle.paths.proofs.Tail.{has-field, key-fits, next-less, tail-kid}
 use Rattle.list.proofs.ChildrenLaws.{Looking, looking-start, looking-fits, looking-seen, looking-unseen, looking-done}
-use Rattle.list.proofs.RunLaws.{Run, run-start, run-next, run-end}
+use Rattle.paths.proofs.RunLaws.{Run, run-start, run-next, run-end}
 use Rattle.list.proofs.seen.seen_children.Statement.{statement}
 use Rattle.list.proofs.seen.seen_children.Tie as tie
 

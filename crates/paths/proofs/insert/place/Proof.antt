@@ -102,10 +102,9 @@ loop2-again c =
     let f = c .before in
     let g = f .before .before in
     let m = g .before in
-    let s = m .before .before .before .before .before in
-    (
+    let s = m .before .before .before .before .before in (
       spotting-next _ _ _ _ (s .pre .0) (s .pre .1 .0 .0) (s .pre .1 .0 .1) _ _ _ (m .loop2 .inv .0) (m .loop2 .inv .1 .some)
-      (rw (g .field .ensures) at (f .before .if1 .left)) (sym (c .if2 .left) ∙ f .field2 .ensures),
+          (rw (g .field .ensures) at (f .before .if1 .left)) (sym (c .if2 .left) ∙ f .field2 .ensures),
       run-next _ _ _ _ (m .loop2 .inv .1) (loop2-less c) refl,
     )
 
