@@ -4,7 +4,7 @@ use mathlib.Core.Path.{_≡_, refl}
 use mathlib.Core.List.{List}
 use native.Mathlib.Omega.{arith}
 use Rattle.limits.specs.Limits.{recordWidth}
-use Rattle.facts.specs.Table.{Has, keyOf, nextOf}
+use Rattle.facts.specs.Table.{Has, keyOf, childOf, nextOf}
 use Rattle.facts.specs.Links.{Kid, First, Linked}
 
 -- r is the child of p with the key k, 0 if there is none
@@ -39,6 +39,9 @@ pub kid-has : (t : List ℕ) (u p c f : ℕ) → Linked t u → Kid t u p c → 
 kid-has t u p c f L d h = let a = d .above in let b = d .used in let w = L .whole in record { from = omega arith; within = omega arith; one = h }
 
 module _ (t : List ℕ) (u p : ℕ) (L : Linked t u) (p1 : 1 ≤ p) (pu : p ≤ u) where
+  pub at-start : (k c : ℕ) → c ≡ childOf t p → At t u p k c
+  at-start k c e = record { low = 0; below = omega arith; first = rw e (L .child p p1 pu) }
+
   pub at-has : (k c f : ℕ) → At t u p k c → (c ≡ 0 → ⊥) → f < recordWidth → Has t c f
   at-has k c f a n h = kid-has t u p c f L (a .first .kid n) h
 
@@ -53,3 +56,20 @@ module _ (t : List ℕ) (u p : ℕ) (L : Linked t u) (p1 : 1 ≤ p) (pu : p ≤ 
           let f : First t u p (keyOf t c + 1) c′ = rw e (L .next p c p1 (a .first .kid n)) in
           let g = f .from n′ in
           rw (left-some c′ (keyOf t c′) n′) (omega arith)
+
+  pub at-found : (k c : ℕ) → At t u p k c → (c ≡ 0 → ⊥) → keyOf t c ≡ k → Found t u p k c
+  at-found k c a n e = record { none = λ z. absurd (n z); kid = a .first .kid; key = λ _. e }
+
+  pub at-past : (k c : ℕ) → At t u p k c → k < keyOf t c → Found t u p k 0
+  at-past k c a lt = record {
+    none = λ _ s d e. let l = a .first .least s d in let b = a .below in absurd (omega (arith, l (omega arith)));
+    kid = λ n. absurd (n refl);
+    key = λ n. absurd (n refl);
+  }
+
+  pub at-none : (k c : ℕ) → At t u p k c → c ≡ 0 → Found t u p k 0
+  at-none k c a z = record {
+    none = λ _ s d e. absurd (omega (arith, a .first .none z s d));
+    kid = λ n. absurd (n refl);
+    key = λ n. absurd (n refl);
+  }
