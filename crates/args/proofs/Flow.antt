@@ -5,18 +5,15 @@ use mathlib.Core.Bool.{Bool, true, false, cond}
 use mathlib.Core.List.{List}
 use native.Mathlib.Omega.{arith}
 use lib.ListN.{length}
-use Rattle.limits.specs.Limits.{recordsMax}
 use Rattle.facts.specs.State.{Node, nodes}
 use Rattle.facts.proofs.Encode.{length-nodes}
-use Rattle.paths.specs.Shape.{Shaped}
 use Rattle.paths.specs.Find.{findIn}
 use Rattle.paths.specs.Make.{missing}
 use Rattle.paths.specs.Holds.{Holds}
 use Rattle.paths.proofs.Finds.{missing-none}
-use Rattle.marks.specs.Names.{setTname, markNotBool, insertNotBool}
 use Rattle.marks.specs.Hints.{hasRangeHint}
 use Rattle.marks.specs.Grows.{Grows}
-use Rattle.marks.proofs.Counts.{length-set-tname, length-mark-not-bool, length-insert-not-bool}
+use Rattle.marks.proofs.Counts.{length-set-tname, length-mark-not-bool}
 use Rattle.word.specs.declared.U256.{U256}
 use Rattle.labels.specs.declared.Val.{Val}
 use Rattle.labels.specs.declared.Label.{Label}
@@ -24,7 +21,7 @@ use Rattle.labels.specs.declared.Label.the-variants.{Unlabelled, CallData, Arg,
 use Rattle.labels.specs.declared.Element.{Element}
 use Rattle.labels.specs.declared.Choice.{Choice}
 use Rattle.labels.specs.declared.Choice.the-variants.{Chosen, Neither}
-use Rattle.labels.specs.Operands.{onArg, chosenOr, choose}
+use Rattle.labels.specs.Operands.{onArg, choose}
 use Rattle.analyze.specs.Machine.{marked, named, markedNamed}
 use Rattle.analyze.specs.Length.{unlessRange, markFirst}
 use Rattle.analyze.specs.Ready.{Ready, Reaches, LabelReaches, ChoiceReaches}

@@ -17,7 +17,6 @@ use Rattle.list.specs.Seen.{seenOnes, lastFrom, lastKey, lastWord}
 use Rattle.list.specs.Walk.{sumOf, allOf, spendBelow, shallowBelow}
 use Rattle.list.proofs.ChildrenLaws.{seen-yes, seen-no}
 use Rattle.budget.specs.Answer.{leaves, budgetBelow, budgetFrom}
-use Rattle.budget.specs.declared.Budget.{Budget}
 use Rattle.budget.specs.declared.Budget.the-variants.{Left, Over}
 use Rattle.budget.proofs.LevelLaws.{spend-is, shallow-is}
 

@@ -11,7 +11,6 @@ use borrow.Author.Tests.{eqb-true, eqb-false, leb-true, le-leb}
 use Rattle.limits.specs.Limits.{codesMax, wordBytes, recordsMax}
 use Rattle.types.specs.Tree.{AbiTypes, nil, cons, count, levels, mostLevels}
 use Rattle.facts.specs.Formed.{Formed}
-use Rattle.facts.specs.Sound.{Sound}
 use Rattle.facts.specs.State.{Node, nodes}
 use Rattle.facts.specs.declared.Records.{Records}
 use Rattle.facts.specs.declared.Records.the-variants.{Count, Unfit}
@@ -20,7 +19,6 @@ use Rattle.facts.specs.Fresh.{numberOf as freshNumber}
 use Rattle.facts.proofs.Counts.{count-counted}
 use Rattle.facts.proofs.States.{sound-formed}
 use Rattle.fresh.specs.Call as fresh-call
-use Rattle.kinds.proofs.KindSounds.{formed-fill}
 use Rattle.list.specs.Seen.{childrenIn, isEmpty, lastWord}
 use Rattle.list.specs.Budget.{shallow, spend, fitsBudget}
 use Rattle.list.specs.Types.{listOf}
@@ -31,14 +29,14 @@ use Rattle.sizes.proofs.Granted.{list-count}
 use Rattle.entries.specs.Entry.{entryOf}
 use Rattle.entries.specs.Agree.{AgreeAt}
 use Rattle.entries.proofs.EntrySame as entries
-use Rattle.closing.specs.Words.{Handed, fillWords, filled}
+use Rattle.closing.specs.Words.{Handed, filled}
 use Rattle.closing.specs.Answer.{Verdict, refused, none, over, granted, isGranted, numberOf, answerOf, typesAfter, withList}
 use Rattle.closing.specs.Call as closing-call
-use Rattle.calls.specs.Facts.{Call, step, closing, Known, start, known, after, afterAll}
+use Rattle.calls.specs.Facts.{Call, closing, start, known}
 use Rattle.calls.specs.Run.{Held, held, fresh, Does, Run, heldOf}
-use Rattle.calls.specs.Terms.{SomeArgument, NoneDeeper, SumFits, WellListed, levelsMax}
+use Rattle.calls.specs.Terms.{SomeArgument, NoneDeeper, SumFits, WellListed}
 use Rattle.calls.specs.Claims.{FirstOf, JudgedBy, ClosingIn, factsOf, GrantedList}
-use Rattle.calls.proofs.Following.{Good, start-good, closing-judged, run-held, run-there, filled-formed}
+use Rattle.calls.proofs.Following.{start-good, closing-judged, run-held, run-there, filled-formed}
 use Rattle.calls.proofs.TermLaws.{argument-child, child-argument, shallow-deeper, deeper-shallow}
 
 -- which answer it is

@@ -1,13 +1,13 @@
 -- The table and the head that the calls leave are those of what is known from the calls alone. Assumes nothing.
-use Prim.Native.Nat.{ℕ, _*_, _≤_}
+use Prim.Native.Nat.{ℕ, _≤_}
 use mathlib.Core.Path.{_≡_, refl, sym, ap, subst, _∙_}
-use mathlib.Core.Bool.{Bool, true, false, cond, true≢false}
+use mathlib.Core.Bool.{Bool, true, false, cond}
 use mathlib.Core.List.{List, [], _∷_}
 use native.Mathlib.Omega.{arith}
-use lib.Dec.{eqb, leb}
+use lib.Dec.{eqb}
 use lib.ListN.{length}
-use borrow.Author.Tests.{eqb-true, eq-eqb, leb-true}
-use Rattle.limits.specs.Limits.{recordWidth, recordsMax}
+use borrow.Author.Tests.{eqb-true, leb-true}
+use Rattle.limits.specs.Limits.{recordsMax}
 use Rattle.facts.specs.Count.{Counted}
 use Rattle.facts.specs.Formed.{Formed}
 use Rattle.facts.specs.Sound.{Sound}
@@ -17,7 +17,6 @@ use Rattle.facts.proofs.Lone.{fresh-sound, fresh-state}
 use Rattle.facts.proofs.States.{formed-state, formed-sound, sound-formed}
 use Rattle.kinds.proofs.KindSounds.{formed-fill}
 use Rattle.labels.specs.Step.{stepOf}
-use Rattle.analyze.specs.Machine.{Machine}
 use Rattle.analyze.specs.Phases.{activeAfter}
 use Rattle.analyze.specs.Analyze.{analyze}
 use Rattle.step.specs.Questions as step-asks
@@ -28,7 +27,7 @@ use Rattle.closing.specs.Words.{Handed, fillWords, filled}
 use Rattle.closing.specs.Answer.{Verdict}
 use Rattle.closing.specs.Call as closing-call
 use Rattle.calls.specs.Facts.{Call, step, closing, Known, start, machineOf, stepRefusal, closingRefusal, stepped, closed, after, afterAll}
-use Rattle.calls.specs.Run.{Held, held, fresh, Does, Run, heldOf}
+use Rattle.calls.specs.Run.{Held, held, Does, Run, heldOf}
 
 -- what a call leaves for the next
 abbrev leftStep : step-call.Lent → Held

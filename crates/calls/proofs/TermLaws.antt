@@ -1,26 +1,25 @@
 -- Demand 3's terms are what the closing asks: an argument is known exactly if the root has a seen child, and no fact lies deeper than 64 exactly if the depths say so.
 -- Assumes nothing.
-use Prim.Native.Nat.{ℕ, zero, suc, _+_, _-_, _≤_, _<_}
-use mathlib.Core.Path.{_≡_, refl, sym, ap, _∙_, subst}
-use mathlib.Core.Bool.{Bool, true, false, true≢false, false≢true, cond, not, _&&_, _||_, and-eq-true-iff}
-use mathlib.Core.Logic.{_⊎_, inl, inr, ⊎-elim}
-use mathlib.Core.List.{List, [], _∷_, _++_}
+use Prim.Native.Nat.{ℕ, zero, suc, _-_, _≤_, _<_}
+use mathlib.Core.Path.{_≡_, refl, sym, ap, _∙_}
+use mathlib.Core.Bool.{Bool, true, false, true≢false, cond, not, _&&_, _||_, and-eq-true-iff}
+use mathlib.Core.Logic.{_⊎_, inl, inr}
+use mathlib.Core.List.{List, [], _∷_}
 use native.Mathlib.Omega.{arith}
 use native.Mathlib.Nat.{eq-or-lt-of-le}
 use lib.Dec.{eqb, leb}
 use lib.ListN.{length, length-append}
-use borrow.Author.Tests.{eqb-true, eqb-false, eq-eqb, ne-eqb, leb-true, le-leb, lt-leb}
+use borrow.Author.Tests.{eqb-true, eqb-false, eq-eqb, leb-true, le-leb, lt-leb}
 use Rattle.limits.specs.Limits.{depthMax}
 use Rattle.facts.specs.Links.{In}
 use Rattle.facts.specs.Formed.{Formed}
 use Rattle.facts.specs.State.{Node, nodeOf, kidsIn}
 use Rattle.paths.specs.Depth.{depthUp, depthOf}
-use Rattle.paths.specs.Order.{Ordered}
 use Rattle.paths.proofs.Reach.{path-of}
 use Rattle.paths.proofs.Sounds.{formed-ordered}
 use Rattle.list.specs.Seen.{seenOnes, childrenIn, isEmpty}
 use Rattle.list.specs.Budget.{shallowTo, shallow}
-use Rattle.budget.proofs.KidLaws.{Child, kid-child, child-kid}
+use Rattle.budget.proofs.KidLaws.{kid-child, child-kid}
 use Rattle.entries.specs.Agree.{pathOf}
 use Rattle.entries.proofs.PathLaws.{root-path}
 use Rattle.calls.specs.Terms.{Fact, SomeArgument, NoneDeeper}

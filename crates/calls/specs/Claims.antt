@@ -3,7 +3,7 @@ use Prim.Native.Nat.{ℕ, _-_, _*_, _≤_}
 use mathlib.Core.Path.{_≡_}
 use mathlib.Core.Bool.{true}
 use mathlib.Core.Logic.{_↔_}
-use mathlib.Core.List.{List, _∷_, _++_}
+use mathlib.Core.List.{List, _++_}
 use lib.ListN.{length, drop}
 use Rattle.limits.specs.Limits.{codesMax, wordBytes, recordsMax}
 use Rattle.types.specs.Tree.{count}
@@ -13,9 +13,9 @@ use Rattle.list.specs.Budget.{spend}
 use Rattle.list.specs.Types.{listOf}
 use Rattle.fresh.specs.Call as fresh-call
 use Rattle.closing.specs.Words.{Handed, filled}
-use Rattle.closing.specs.Answer.{Verdict, none, over, granted, isGranted, numberOf}
+use Rattle.closing.specs.Answer.{Verdict, none, over, isGranted, numberOf}
 use Rattle.closing.specs.Call as closing-call
-use Rattle.calls.specs.Facts.{Call, closing, known}
+use Rattle.calls.specs.Facts.{Call, known}
 use Rattle.calls.specs.Run.{Held, held, fresh, Run}
 use Rattle.calls.specs.Terms.{SomeArgument, NoneDeeper, SumFits, WellListed}
 

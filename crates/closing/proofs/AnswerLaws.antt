@@ -1,8 +1,8 @@
 -- None, over or granted: what the answer and the type slice are in each case. Assumes nothing.
-use Prim.Native.Nat.{ℕ, zero, suc, _+_, _-_, _*_, _^_, _≤_}
+use Prim.Native.Nat.{ℕ, suc, _+_, _-_, _*_, _≤_}
 use mathlib.Core.Path.{_≡_, refl, sym, ap, _∙_}
-use mathlib.Core.Bool.{Bool, true, false, true≢false, cond, _&&_, and-eq-true-iff}
-use mathlib.Core.List.{List, [], _∷_, _++_}
+use mathlib.Core.Bool.{Bool, true, false, cond, and-eq-true-iff}
+use mathlib.Core.List.{List, _++_}
 use native.Mathlib.Omega.{arith}
 use native.Mathlib.Nat.{zero-add}
 use native.Mathlib.Numerals.{add-one}
@@ -26,7 +26,7 @@ use Rattle.budget.specs.declared.Budget.the-variants.{Left, Over}
 use Rattle.budget.specs.Answer.{budgetOf}
 use Rattle.sizes.proofs.ListCodes.{list-codes}
 use Rattle.sizes.proofs.Granted.{list-count}
-use Rattle.closing.specs.Answer.{Verdict, none, over, granted, entries, answerOf, typesAfter, withList}
+use Rattle.closing.specs.Answer.{none, over, granted, answerOf, typesAfter}
 
 -- what a budget leaves, 0 for none
 abbrev leftIn : Budget → ℕ

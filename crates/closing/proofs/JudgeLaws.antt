@@ -1,10 +1,10 @@
 -- Questions 3, 9 and 8, the fill and the answer: what each case of the code says of the outcome. Assumes nothing.
 use Prim.Native.Nat.{ℕ, _+_, _-_, _≤_, _<_}
 use mathlib.Core.Path.{_≡_, refl, sym, ap, _∙_}
-use mathlib.Core.Bool.{Bool, false, cond}
+use mathlib.Core.Bool.{false}
 use mathlib.Core.List.{List}
 use native.Mathlib.Omega.{arith}
-use lib.Dec.{eqb, leb}
+use lib.Dec.{eqb}
 use lib.ListN.{length}
 use borrow.Author.Tests.{le-leb, lt-leb}
 use Rattle.limits.specs.Limits.{codesMax, codeMax}
@@ -20,7 +20,7 @@ use Rattle.kinds.proofs.FillLaws.{length-fill}
 use Rattle.kinds.proofs.KindSounds.{formed-fill}
 use Rattle.closing.specs.Words.{Handed, fillWords, filled}
 use Rattle.closing.specs.Answer.{Verdict, refused, answerOf, typesAfter}
-use Rattle.closing.specs.Call.{Lent, lend, codeFits, typesFit, roomThere, refusal, judge, leftBy, Judged}
+use Rattle.closing.specs.Call.{Lent, lend, refusal, judge, leftBy, Judged}
 
 module _ (N used active : ℕ) (table types : List ℕ) (h : Handed) where
   abbrev l : Lent

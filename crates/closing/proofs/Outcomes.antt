@@ -1,10 +1,7 @@
 -- `one-outcome`: the closing has one outcome for one input: its answer, its head and the lent slices. Assumes nothing.
-use Prim.Native.Nat.{ℕ, _*_, _≤_}
-use mathlib.Core.Path.{_≡_, refl, sym, ap, subst, _∙_}
-use mathlib.Core.List.{List}
-use native.Mathlib.Omega.{arith}
+use Prim.Native.Nat.{ℕ}
+use mathlib.Core.Path.{_≡_, sym, subst, _∙_}
 use lib.ListN.{length}
-use Rattle.facts.specs.Count.{Counted}
 use Rattle.facts.specs.Sound.{Sound}
 use Rattle.facts.proofs.Counts.{count-once}
 use Rattle.closing.specs.Words.{Handed}

@@ -1,13 +1,13 @@
 -- The words that a closing fills, line by line of the code. Assumes nothing.
 use Prim.Native.Nat.{ℕ, zero, suc, _-_, _≤_, _<_}
 use mathlib.Core.Path.{_≡_, refl, sym, ap, _∙_}
-use mathlib.Core.Bool.{Bool, true, false, cond, not, _&&_, _||_}
+use mathlib.Core.Bool.{Bool, true, false, cond, not, _&&_}
 use mathlib.Core.Logic.{inl, inr, ⊎-elim}
 use mathlib.Core.List.{List, [], _∷_}
 use native.Mathlib.Omega.{arith}
-use lib.Dec.{eqb, leb}
+use lib.Dec.{eqb}
 use lib.ListN.{length}
-use borrow.Author.Tests.{eq-eqb, ne-eqb, le-leb, lt-leb}
+use borrow.Author.Tests.{le-leb, lt-leb}
 use Rattle.limits.specs.Limits.{kindArray, argumentWordsMax}
 use Rattle.word.specs.Value.{valueOf}
 use Rattle.word.specs.declared.U256.{U256}
@@ -16,9 +16,9 @@ use Rattle.code.specs.declared.Words.the-variants.{Count, Nothing}
 use Rattle.code.specs.Length.{directMinCalldataWords}
 use Rattle.code.specs.Dense.{denseMinCalldataWords}
 use Rattle.facts.specs.Table.{childOf, nextOf, kindOf}
-use Rattle.facts.specs.Links.{In, Kid}
+use Rattle.facts.specs.Links.{In}
 use Rattle.facts.specs.State.{Node, nodes, nodeOf, kidsIn, kidsOf}
-use Rattle.facts.proofs.Encode.{length-nodes, nodes-get, kids-nodes}
+use Rattle.facts.proofs.Encode.{nodes-get, kids-nodes}
 use Rattle.facts.proofs.Kids.{kids-in}
 use Rattle.paths.specs.Shape.{Shaped}
 use Rattle.paths.proofs.Tail.{Tail, More, tail-more, tail-none, tail-start}
@@ -28,7 +28,7 @@ use Rattle.list.specs.Looks.{Looked}
 use Rattle.list.specs.declared.Children.{Children}
 use Rattle.list.proofs.ChildrenLaws.{empty-is}
 use Rattle.closing.specs.declared.Packed.{Packed}
-use Rattle.closing.specs.declared.Packed.the-variants.{Absent, Word}
+use Rattle.closing.specs.declared.Packed.the-variants.{Word}
 use Rattle.closing.specs.declared.Dynamics.{Dynamics}
 use Rattle.closing.specs.Words.{Handed, packedWords, override, minWords, dynamicOnes, dynamicArgs, oneLess, headBy, headWords, fillCount, fillWords}
 use Rattle.closing.specs.Dynamics.{dynamics, summary, resume}

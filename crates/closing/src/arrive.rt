@@ -4,7 +4,6 @@ ghost use Prim.Native.Nat.{_≤_};
 ghost use lib.ListN.{length};
 ghost use Rattle.facts.specs.Count.{Counted};
 ghost use Rattle.facts.specs.Sound.{Sound};
-ghost use Rattle.limits.specs.Limits.{codesMax};
 ghost use Rattle.closing.specs.Answer.{verdictOf, numberOf};
 ghost use Rattle.closing.specs.Call.{Outcome, Judged, lend};
 use crate::Closed;

@@ -1,5 +1,5 @@
 -- A reading that holds where something is pushed and a test passes, case by case. Assumes nothing.
-use mathlib.Core.Path.{_≡_, refl, sym, ap, _∙_}
+use mathlib.Core.Path.{_≡_}
 use mathlib.Core.Bool.{Bool, true, false, cond, not, _&&_, and-false}
 use Prim.Native.Nat.{ℕ}
 use borrow.Author.Tests.{ne-eqb, not-true, not-false}

@@ -1,10 +1,10 @@
 -- The checked length, directly, and the words in it. Assumes nothing.
 use mathlib.Core.Path.{_≡_, refl, sym, ap, _∙_}
-use mathlib.Core.Bool.{Bool, true, false, not, cond, _&&_, and-false}
+use mathlib.Core.Bool.{Bool, true, false, not, _&&_, and-false}
 use mathlib.Core.List.{List}
 use Prim.Native.Nat.{ℕ, _+_, _-_, _/_, _%_, _≤_, _<_}
 use native.Mathlib.Omega.{arith}
-use borrow.Author.Tests.{le-leb, lt-leb, ne-eqb, eq-eqb, not-false}
+use borrow.Author.Tests.{le-leb, lt-leb, ne-eqb, not-false}
 use lib.ListN.{length}
 use Rattle.limits.specs.Limits.{selectorBytes, wordBytes}
 use Rattle.opcode.specs.Opcode.{CALLDATASIZE, JUMPDEST, LT}

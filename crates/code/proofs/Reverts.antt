@@ -1,11 +1,10 @@
 -- The six byte strings, after one JUMPDEST. Assumes nothing.
-use mathlib.Core.Path.{_≡_, refl, sym, ap, _∙_}
-use mathlib.Core.Bool.{Bool, true, false, cond, _||_, or-assoc, or-false}
+use mathlib.Core.Path.{_≡_, refl, ap, _∙_}
+use mathlib.Core.Bool.{Bool, false, _||_, or-assoc, or-false}
 use mathlib.Core.List.{List, [], _∷_}
-use Prim.Native.Nat.{ℕ, zero, suc, _-_, _≤_, _<_}
+use Prim.Native.Nat.{ℕ, _-_}
 use native.Mathlib.Omega.{arith}
 use borrow.Author.Tests.{eq-eqb, ne-eqb}
-use lib.Dec.{eqb}
 use lib.ListN.{length, getD, take, drop, length-drop}
 use lib.Seq.{take-all}
 use Rattle.opcode.specs.Opcode.{JUMPDEST}

@@ -3,7 +3,6 @@ use Prim.Native.Nat.{ℕ}
 use mathlib.Core.Path.{_≡_, sym, ap, _∙_}
 use mathlib.Core.Bool.{true≢false}
 use mathlib.Core.List.{List}
-use Rattle.closing.specs.Answer.{Verdict}
 use Rattle.closing.specs.Call.{Lent}
 use Rattle.closing.proofs.Outcomes.{one-outcome as one-closing}
 use Rattle.exports.specs.declared.Answered.{Answered}

@@ -14,7 +14,7 @@ use Rattle.limits.specs.Limits.{recordWidth}
 use Rattle.facts.specs.Table.{keyOf, parentOf, childOf, nextOf, seenOf}
 use Rattle.facts.specs.State.{nodeAt}
 use Rattle.facts.specs.Links.{Kid, First, Linked, In, Seg, Rising, ChainOf, Chained}
-use Rattle.facts.specs.Fact.{isFact, isRoot, AreRecords}
+use Rattle.facts.specs.Fact.{isRecord, isRoot, AreRecords}
 
 -- r comes before the key b of the chain of p
 pub record Before (t : List ℕ) (p b r : ℕ) : Type 0 where
@@ -30,7 +30,7 @@ pub record Walked (t : List ℕ) (u p b n : ℕ) : Type 0 where
   pub kid : (r : ℕ) → In r met → Kid t u (parentOf t r) r
   pub before : (r : ℕ) → In r met → Before t p b r
   pub stands : (r : ℕ) → In r met → (ms : List ℕ) × Seg t (childOf t (parentOf t r)) ms r
-  pub fact : (r : ℕ) → In r met → isFact (nodeAt t r) ≡ true
+  pub fact : (r : ℕ) → In r met → isRecord (nodeAt t r) ≡ true
   pub seen : (r : ℕ) → In r met → seenOf t r ≤ seenOf t (parentOf t r)
   pub all : Linked t u → (r : ℕ) → 1 < r → r ≤ u → Before t p b r → In r met
 
@@ -108,7 +108,7 @@ module _ (t : List ℕ) (u p c b n : ℕ) (I : Inner t u p c b n) where
   pub ask : Linked t u → (c ≡ 0 → ⊥) → Kid t u p c × (b ≤ keyOf t c)
   ask L z = (I .told L .kid z, I .told L .from z)
 
-  module _ (z : c ≡ 0 → ⊥) (K : Kid t u p c) (h : b ≤ keyOf t c) (F : isFact (nodeAt t c) ≡ true) (T : seenOf t c ≤ seenOf t p) where
+  module _ (z : c ≡ 0 → ⊥) (K : Kid t u p c) (h : b ≤ keyOf t c) (F : isRecord (nodeAt t c) ≡ true) (T : seenOf t c ≤ seenOf t p) where
     walked-all : Linked t u → (r : ℕ) → 1 < r → r ≤ u → Before t p (keyOf t c + 1) r → In r (c ∷ I .walked .met)
     walked-all L r r1 ru B = go (lt-or-ge (parentOf t r) p)
       where
@@ -211,7 +211,7 @@ finish t u p n h w R O ul e =
     met r r1 ru = all-in (u - 1) (O .walked .met) (O .walked .nodup) (range t u p 0 n h (O .walked)) (O .walked .count ∙ e) r r1 (omega arith)
 
     -- and the root passed before
-    fact : (r : ℕ) → 1 ≤ r → r ≤ u → isFact (nodeAt t r) ≡ true
+    fact : (r : ℕ) → 1 ≤ r → r ≤ u → isRecord (nodeAt t r) ≡ true
     fact r r1 ru = ⊎-elim (λ (z : 1 ≡ r). rw (← z) (root-fact t (is-root t R))) (λ (l : 1 < r). O .walked .fact r (met r l ru)) (eq-or-lt-of-le r1)
 
 pub few : (t : List ℕ) (u p n : ℕ) → 1 ≤ u → Outer t u p n → u < p → (n ≡ u - 1 → ⊥) → Linked t u → ⊥

@@ -12,7 +12,7 @@ use Rattle.facts.specs.Table.{fld, put, childOf, ZeroFrom}
 use Rattle.facts.specs.Count.{Counted}
 use Rattle.facts.specs.Links.{Chained}
 use Rattle.facts.specs.State.{Node, root, nodeAt, nodes, encode}
-use Rattle.facts.specs.Fact.{isBare, isFact, AreRecords}
+use Rattle.facts.specs.Fact.{isBare, isRecord, AreRecords}
 use Rattle.facts.specs.Sound.{Root, Sound}
 use Rattle.facts.proofs.Laws.{length-put, put-same, put-else}
 use Rattle.facts.proofs.Whole.{root-is, root-fact, parts-sound}
@@ -90,7 +90,7 @@ module _ (N : ℕ) (N1 : 1 ≤ N) where
 
   records : AreRecords lone 1
   records = record {
-    fact = λ r a b. let e : 1 ≡ r = omega arith in subst (λ (x : ℕ). isFact (nodeAt lone x) ≡ true) e (root-fact lone is-lone-root);
+    fact = λ r a b. let e : 1 ≡ r = omega arith in subst (λ (x : ℕ). isRecord (nodeAt lone x) ≡ true) e (root-fact lone is-lone-root);
     under-seen = λ r a b. absurd (omega arith);
   }
 

@@ -14,7 +14,7 @@ use Rattle.limits.specs.Fields as field
 use Rattle.facts.specs.Table.{fld, keyOf, parentOf, childOf, nextOf, seenOf, Blank}
 use Rattle.facts.specs.Links.{Kid, Linked, In, Seg, Rising, Chained}
 use Rattle.facts.specs.State.{Node, bare, root, nodeAt, nodes, nodeOf, kidsIn, kidsOf, headOr, after, nextIn, row, rows, encode}
-use Rattle.facts.specs.Fact.{isBare, isFact, isUnderSeen}
+use Rattle.facts.specs.Fact.{isBare, isRecord, isUnderSeen}
 use Rattle.facts.specs.Sound.{Root, Sound}
 use Rattle.facts.specs.Formed.{Formed, TableOf}
 use Rattle.facts.proofs.Chains.{rising-low, in-seg, chained-linked}
@@ -215,8 +215,8 @@ module _ (N : ℕ) (s : List Node) (fit : length s ≤ N) where
       last-five = ap isBare root-node;
     }
 
-    formed-fact : (r : ℕ) → 1 ≤ r → r ≤ length s → isFact (nodeAt T r) ≡ true
-    formed-fact r r1 rl = ap isFact (node-is r r1 rl) ∙ F .fact r r1 rl
+    formed-fact : (r : ℕ) → 1 ≤ r → r ≤ length s → isRecord (nodeAt T r) ≡ true
+    formed-fact r r1 rl = ap isRecord (node-is r r1 rl) ∙ F .fact r r1 rl
 
     formed-under-seen : (r : ℕ) → 1 < r → r ≤ length s → isUnderSeen T r ≡ true
     formed-under-seen r r1 rl =
@@ -262,7 +262,7 @@ module _ (t : List ℕ) (u N : ℕ) (S : Sound t u N) where
     distinct = λ r q r1 rl q1 ql e k. apart r q r1 rl q1 ql
         (sym (ap (λ (n : Node). n .parent) (got r (omega arith) rl)) ∙ e ∙ ap (λ (n : Node). n .parent) (got q (omega arith) ql))
         (sym (ap (λ (n : Node). n .key) (got r (omega arith) rl)) ∙ k ∙ ap (λ (n : Node). n .key) (got q (omega arith) ql));
-    fact = λ r r1 rl. let e = length-nodes t u in ap isFact (got r r1 rl) ∙ sound-fact t u N S r r1 (omega arith);
+    fact = λ r r1 rl. let e = length-nodes t u in ap isRecord (got r r1 rl) ∙ sound-fact t u N S r r1 (omega arith);
     seen-parent = λ r r1 rl e. under r r1 rl e;
   }
     where

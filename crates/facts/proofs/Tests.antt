@@ -13,7 +13,7 @@ use Rattle.limits.specs.Codes.{noName}
 use Rattle.names.specs.Elementary.{isName}
 use Rattle.facts.specs.Table.{keyOf, parentOf, nextOf, seenOf, notBoolOf, blockedOf, kindOf, countOf, nameOf, confidenceOf}
 use Rattle.facts.specs.State.{Node, nodeAt}
-use Rattle.facts.specs.Fact.{areFlags, isBare, isBareUnseen, isKind, isConfidence, isCount, isNamed, isFact, isRoot}
+use Rattle.facts.specs.Fact.{areFlags, isBare, isBareUnseen, isKind, isConfidence, isCount, isNamed, isRecord, isRoot}
 
 -- the conjunction of a record's tests, by what is asked first
 reorder : (k d c n : Bool) → (k && d && c && n) ≡ ((k && c) && (d && n))
@@ -23,7 +23,7 @@ reorder true false true n = refl
 reorder true false false n = refl
 
 module _ (n : Node) (flags : areFlags n ≡ true) where
-  unseen-bare : n .seen ≡ 0 → isBare n ≡ true → isFact n ≡ true
+  unseen-bare : n .seen ≡ 0 → isBare n ≡ true → isRecord n ≡ true
   unseen-bare z h =
       let b = bare-zeros n h in
       parts-fact n (record {
@@ -35,12 +35,12 @@ module _ (n : Node) (flags : areFlags n ≡ true) where
         sixth = rw (b .name);
       })
 
-  unseen-not-bare : n .seen ≡ 0 → isBare n ≡ false → isFact n ≡ false
-  unfolding isFact
+  unseen-not-bare : n .seen ≡ 0 → isBare n ≡ false → isRecord n ≡ false
+  unfolding isRecord
   unseen-not-bare z h = λ i. flags i && (leb 1 (z i) || h i) && isKind n && isConfidence n && isCount n && isNamed n
 
-  seen-fact : (n .seen ≡ 0 → ⊥) → isFact n ≡ ((isKind n && isCount n) && (isConfidence n && isNamed n))
-  unfolding isFact
+  seen-fact : (n .seen ≡ 0 → ⊥) → isRecord n ≡ ((isKind n && isCount n) && (isConfidence n && isNamed n))
+  unfolding isRecord
   seen-fact z =
       let s : isBareUnseen n ≡ true = simp (le-leb 1 (n .seen) (omega arith)) in
       (λ i. flags i && s i && isKind n && isConfidence n && isCount n && isNamed n) ∙ reorder (isKind n) (isConfidence n) (isCount n) (isNamed n)
@@ -87,30 +87,30 @@ module _ (t : List ℕ) (r : ℕ) where
   named-is n d b en ed z l m e = rw (← en, ← ed) (simp (ne-eqb n noName z, le-leb 1 d l, le-leb d confidenceMax m) e)
 
   -- all of them, test by test
-  pub fact-flags : (a : Bool) → a ≡ areFlags (nodeAt t r) → not a ≡ true → false ≡ isFact (nodeAt t r)
-  unfolding isFact
+  pub fact-flags : (a : Bool) → a ≡ areFlags (nodeAt t r) → not a ≡ true → false ≡ isRecord (nodeAt t r)
+  unfolding isRecord
   fact-flags a ea na =
       let e : false ≡ areFlags (nodeAt t r) = sym (not-true a na) ∙ ea in
       λ i. e i && isBareUnseen (nodeAt t r) && isKind (nodeAt t r) && isConfidence (nodeAt t r) && isCount (nodeAt t r) && isNamed (nodeAt t r)
 
-  pub fact-unseen : (a : Bool) (s : ℕ) (b : Bool) → a ≡ areFlags (nodeAt t r) → not a ≡ false → s ≡ seenOf t r → s ≡ 0 → b ≡ isBare (nodeAt t r) → b ≡ isFact (nodeAt t r)
+  pub fact-unseen : (a : Bool) (s : ℕ) (b : Bool) → a ≡ areFlags (nodeAt t r) → not a ≡ false → s ≡ seenOf t r → s ≡ 0 → b ≡ isBare (nodeAt t r) → b ≡ isRecord (nodeAt t r)
   fact-unseen a s b ea na es z eb = go b eb
     where
       flags : areFlags (nodeAt t r) ≡ true
       flags = sym ea ∙ not-false a na
 
-      go : (b : Bool) → b ≡ isBare (nodeAt t r) → b ≡ isFact (nodeAt t r)
+      go : (b : Bool) → b ≡ isBare (nodeAt t r) → b ≡ isRecord (nodeAt t r)
       go true e = sym (unseen-bare (nodeAt t r) flags (sym es ∙ z) (sym e))
       go false e = sym (unseen-not-bare (nodeAt t r) flags (sym es ∙ z) (sym e))
 
   pub fact-count : (a : Bool) (s : ℕ) (b : Bool) → a ≡ areFlags (nodeAt t r) → not a ≡ false → s ≡ seenOf t r → (s ≡ 0 → ⊥) →
-      b ≡ (isKind (nodeAt t r) && isCount (nodeAt t r)) → not b ≡ true → false ≡ isFact (nodeAt t r)
+      b ≡ (isKind (nodeAt t r) && isCount (nodeAt t r)) → not b ≡ true → false ≡ isRecord (nodeAt t r)
   fact-count a s b ea na es z eb nb =
       let e : false ≡ (isKind (nodeAt t r) && isCount (nodeAt t r)) = sym (not-true b nb) ∙ eb in
       (λ i. e i && (isConfidence (nodeAt t r) && isNamed (nodeAt t r))) ∙ sym (seen-fact (nodeAt t r) (sym ea ∙ not-false a na) (rw (← es) z))
 
   pub fact-named : (a : Bool) (s : ℕ) (b d : Bool) → a ≡ areFlags (nodeAt t r) → not a ≡ false → s ≡ seenOf t r → (s ≡ 0 → ⊥) →
-      b ≡ (isKind (nodeAt t r) && isCount (nodeAt t r)) → not b ≡ false → d ≡ (isConfidence (nodeAt t r) && isNamed (nodeAt t r)) → d ≡ isFact (nodeAt t r)
+      b ≡ (isKind (nodeAt t r) && isCount (nodeAt t r)) → not b ≡ false → d ≡ (isConfidence (nodeAt t r) && isNamed (nodeAt t r)) → d ≡ isRecord (nodeAt t r)
   fact-named a s b d ea na es z eb nb ed =
       let e : true ≡ (isKind (nodeAt t r) && isCount (nodeAt t r)) = sym (not-false b nb) ∙ eb in
       (λ i. e i && ed i) ∙ sym (seen-fact (nodeAt t r) (sym ea ∙ not-false a na) (rw (← es) z))

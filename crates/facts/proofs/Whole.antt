@@ -13,7 +13,7 @@ use Rattle.names.specs.Elementary.{isName}
 use Rattle.facts.specs.Table.{fld, keyOf, parentOf, nextOf, seenOf, notBoolOf, blockedOf, Blank, ZeroFrom}
 use Rattle.facts.specs.Links.{Chained}
 use Rattle.facts.specs.State.{Node, nodeAt}
-use Rattle.facts.specs.Fact.{areFlags, isBare, isBareUnseen, isKind, isConfidence, isCount, isNamed, isFact, isUnderSeen, AreRecords, isRoot}
+use Rattle.facts.specs.Fact.{areFlags, isBare, isBareUnseen, isKind, isConfidence, isCount, isNamed, isRecord, isUnderSeen, AreRecords, isRoot}
 use Rattle.facts.specs.Sound.{Root, Sound}
 use Rattle.facts.proofs.Laws.{column}
 
@@ -39,12 +39,12 @@ six-true : (a b c d e f : Bool) → Six a b c d e f → (a && b && c && d && e &
 six-true a b c d e f s = λ i. s .first i && s .second i && s .third i && s .fourth i && s .fifth i && s .sixth i
 
 -- the tests of a record's own fields
-pub fact-parts : (n : Node) → isFact n ≡ true → Six (areFlags n) (isBareUnseen n) (isKind n) (isConfidence n) (isCount n) (isNamed n)
-unfolding isFact
+pub fact-parts : (n : Node) → isRecord n ≡ true → Six (areFlags n) (isBareUnseen n) (isKind n) (isConfidence n) (isCount n) (isNamed n)
+unfolding isRecord
 fact-parts n h = six (areFlags n) (isBareUnseen n) (isKind n) (isConfidence n) (isCount n) (isNamed n) h
 
-pub parts-fact : (n : Node) → Six (areFlags n) (isBareUnseen n) (isKind n) (isConfidence n) (isCount n) (isNamed n) → isFact n ≡ true
-unfolding isFact
+pub parts-fact : (n : Node) → Six (areFlags n) (isBareUnseen n) (isKind n) (isConfidence n) (isCount n) (isNamed n) → isRecord n ≡ true
+unfolding isRecord
 parts-fact n s = six-true (areFlags n) (isBareUnseen n) (isKind n) (isConfidence n) (isCount n) (isNamed n) s
 
 -- the last five fields are zero
@@ -92,11 +92,11 @@ module _ (t : List ℕ) where
   })
 
   -- a root passes the tests of every record
-  pub root-fact : Root t → isFact (nodeAt t 1) ≡ true
-  unfolding isFact isName
+  pub root-fact : Root t → isRecord (nodeAt t 1) ≡ true
+  unfolding isRecord isName
   root-fact R =
       let b = bare-zeros (nodeAt t 1) (R .last-five) in
-      λ i. isFact (record {
+      λ i. isRecord (record {
         key = keyOf t 1;
         parent = parentOf t 1;
         seen = R .seen i;
@@ -135,14 +135,14 @@ module _ (t : List ℕ) (r : ℕ) where
       leb-true (seenOf t r) 1 (and-eq-true-iff (leb (seenOf t r) 1) (leb (notBoolOf t r) 1) .0 (p .0) .0)
 
   -- so a record is under a seen one, if it is seen, just where its flag is not above its parent's
-  pub under-seen-le : isFact (nodeAt t r) ≡ true → isUnderSeen t r ≡ true → seenOf t r ≤ seenOf t (parentOf t r)
+  pub under-seen-le : isRecord (nodeAt t r) ≡ true → isUnderSeen t r ≡ true → seenOf t r ≤ seenOf t (parentOf t r)
   under-seen-le f h = go (ℕ-discrete (seenOf t r) 1)
     where
       go : Dec (seenOf t r ≡ 1) → seenOf t r ≤ seenOf t (parentOf t r)
       go (yes e) = let p = under-seen h e in omega arith
       go (no n) = let l = seen-flag (fact-parts (nodeAt t r) f .first) in omega arith
 
-pub le-under-seen : (t : List ℕ) (r : ℕ) → isFact (nodeAt t (parentOf t r)) ≡ true → seenOf t r ≤ seenOf t (parentOf t r) → isUnderSeen t r ≡ true
+pub le-under-seen : (t : List ℕ) (r : ℕ) → isRecord (nodeAt t (parentOf t r)) ≡ true → seenOf t r ≤ seenOf t (parentOf t r) → isUnderSeen t r ≡ true
 le-under-seen t r f h =
     let l = seen-flag t (parentOf t r) (fact-parts (nodeAt t (parentOf t r)) f .first) in
     seen-under t r (omega arith) (λ e. omega arith)
@@ -172,7 +172,7 @@ module _ (t : List ℕ) (u N : ℕ) where
     pub sound-root : isRoot t ≡ true
     sound-root = root-is t (S .root)
 
-    pub sound-fact : (r : ℕ) → 1 ≤ r → r ≤ u → isFact (nodeAt t r) ≡ true
+    pub sound-fact : (r : ℕ) → 1 ≤ r → r ≤ u → isRecord (nodeAt t r) ≡ true
     sound-fact r r1 ru = parts-fact (nodeAt t r) (record {
       first = S .flags r r1 ru;
       second = S .unseen r r1 ru;

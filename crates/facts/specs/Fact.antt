@@ -41,9 +41,9 @@ isCount n =
 abbrev pub isNamed : Node → Bool
 isNamed n = eqb (n .name) noName || isName (n .name)
 
--- the tests above, all in one
-unfoldable pub isFact : Node → Bool
-isFact n = areFlags n && isBareUnseen n && isKind n && isConfidence n && isCount n && isNamed n
+-- the tests above, all in one: of every used record, seen or not
+unfoldable pub isRecord : Node → Bool
+isRecord n = areFlags n && isBareUnseen n && isKind n && isConfidence n && isCount n && isNamed n
 
 -- "A seen record's parent is seen"
 unfoldable pub isUnderSeen : List ℕ → ℕ → Bool
@@ -51,7 +51,7 @@ isUnderSeen t r = eqb (seenOf t r) 0 || eqb (seenOf t (parentOf t r)) 1
 
 -- what question 2 asks of the used records, their chains apart
 pub record AreRecords (t : List ℕ) (used : ℕ) : Type 0 where
-  pub fact : (r : ℕ) → 1 ≤ r → r ≤ used → isFact (nodeAt t r) ≡ true
+  pub fact : (r : ℕ) → 1 ≤ r → r ≤ used → isRecord (nodeAt t r) ≡ true
   pub under-seen : (r : ℕ) → 1 < r → r ≤ used → isUnderSeen t r ≡ true
 
 -- "The root is seen, otherwise zero but for child."

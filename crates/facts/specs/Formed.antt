@@ -6,7 +6,7 @@ use mathlib.Core.Bool.{true}
 use mathlib.Core.List.{List}
 use lib.ListN.{length}
 use Rattle.facts.specs.State.{Node, root, nodeOf, encode}
-use Rattle.facts.specs.Fact.{isFact}
+use Rattle.facts.specs.Fact.{isRecord}
 
 pub record Formed (s : List Node) : Type 0 where
   -- path 1 is the root
@@ -18,7 +18,7 @@ pub record Formed (s : List Node) : Type 0 where
   pub distinct : (r q : ℕ) → 1 < r → r ≤ length s → 1 < q → q ≤ length s → nodeOf s r .parent ≡ nodeOf s q .parent
       → nodeOf s r .key ≡ nodeOf s q .key → r ≡ q
   -- flags, kind, count, name and confidence
-  pub fact : (r : ℕ) → 1 ≤ r → r ≤ length s → isFact (nodeOf s r) ≡ true
+  pub fact : (r : ℕ) → 1 ≤ r → r ≤ length s → isRecord (nodeOf s r) ≡ true
   -- "A seen record's parent is seen"
   pub seen-parent : (r : ℕ) → 1 < r → r ≤ length s → nodeOf s r .seen ≡ 1 → nodeOf s (nodeOf s r .parent) .seen ≡ 1
 

@@ -3,7 +3,7 @@ ghost use mathlib.Core.Path.{_≡_};
 ghost use mathlib.Core.Bool.{_&&_};
 ghost use Rattle.facts.specs.Table.{HasRecord};
 ghost use Rattle.facts.specs.State.{nodeAt};
-ghost use Rattle.facts.specs.Fact.{areFlags, isBare, isKind, isConfidence, isCount, isNamed, isFact, isRoot};
+ghost use Rattle.facts.specs.Fact.{areFlags, isBare, isKind, isConfidence, isCount, isNamed, isRecord, isRoot};
 use crate::table::field;
 use limits::ARRAY_COUNT_MAX;
 use limits::CONFIDENCE_MAX;
@@ -81,9 +81,9 @@ fn is_named(table: &[u32], r: u32) -> bool
 }
 
 // Does the record pass all of these? The first test that fails is the last one: in a sound table none does, so that the processor foresees the branches.
-pub fn is_fact(table: &[u32], r: u32) -> bool
+pub fn is_record(table: &[u32], r: u32) -> bool
     requires { ⌜ HasRecord (now table) r ⌝ }
-    ensures { λ b. ⌜ b ≡ isFact (nodeAt (now (table .entry)) r) ⌝ }
+    ensures { λ b. ⌜ b ≡ isRecord (nodeAt (now (table .entry)) r) ⌝ }
 {
     if !are_flags(table, r) {
         return false;

@@ -7,7 +7,7 @@ ghost use Rattle.limits.specs.Limits.{recordWidth, recordsMax};
 ghost use Rattle.facts.specs.Links.{Kid, Chained};
 ghost use Rattle.facts.specs.Fact.{isRoot, AreRecords};
 ghost use Rattle.facts.specs.Sound.{Tells};
-use crate::fact::is_fact;
+use crate::fact::is_record;
 use crate::table::field;
 use limits::fields::CHILD;
 use limits::fields::KEY;
@@ -60,7 +60,7 @@ pub fn are_chained_records(table: &[u32], used: u32) -> bool
             if seen < field(table, c, SEEN) {
                 return false;
             }
-            if !is_fact(table, c) {
+            if !is_record(table, c) {
                 return false;
             }
             low = k + 1;

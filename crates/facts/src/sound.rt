@@ -1,6 +1,4 @@
 // Question 2.
-ghost use mathlib.Core.Path.{_≡_};
-ghost use Prim.Native.Nat.{_≤_};
 ghost use lib.ListN.{length};
 ghost use Rattle.facts.specs.Table.{ZeroFrom};
 ghost use Rattle.facts.specs.Count.{Counted};

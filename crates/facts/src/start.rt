@@ -1,6 +1,5 @@
 // The fresh call.
 ghost use mathlib.Core.Path.{_≡_};
-ghost use Prim.Native.Nat.{ℕ};
 ghost use lib.ListN.{length, replicate};
 ghost use Rattle.facts.specs.Count.{recordCount};
 ghost use Rattle.facts.specs.Fresh.{freshTable, numberOf};

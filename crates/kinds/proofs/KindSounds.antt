@@ -10,7 +10,7 @@ use borrow.Author.Tests.{eqb-false, le-leb}
 use Rattle.limits.specs.Limits.{wordBytes, kindDynamic, kindArray, arrayCountMax, dynamicCountMax}
 use Rattle.limits.specs.Fields as field
 use Rattle.facts.specs.State.{Node, nodeOf}
-use Rattle.facts.specs.Fact.{isFact}
+use Rattle.facts.specs.Fact.{isRecord}
 use Rattle.facts.specs.Formed.{Formed}
 use Rattle.facts.proofs.Whole.{fact-parts, parts-fact}
 use Rattle.paths.specs.Update.{withField}
@@ -21,8 +21,8 @@ use Rattle.kinds.specs.Kinds.{giveKind, dynamicAt, arrayAt, setDynamic, 
 use Rattle.kinds.specs.Fill.{fill}
 
 -- a fact with another kind
-module _ (n : Node) (count : ℕ) (h : isFact n ≡ true) (y : n .seen ≡ 1) where
-  pub dynamic-fact : count ≤ dynamicCountMax → isFact (withField field.count count (withField field.kind kindDynamic n)) ≡ true
+module _ (n : Node) (count : ℕ) (h : isRecord n ≡ true) (y : n .seen ≡ 1) where
+  pub dynamic-fact : count ≤ dynamicCountMax → isRecord (withField field.count count (withField field.kind kindDynamic n)) ≡ true
   unfolding withField
   dynamic-fact l =
       let p = fact-parts n h in
@@ -35,7 +35,7 @@ module _ (n : Node) (count : ℕ) (h : isFact n ≡ true) (y : n .seen ≡ 1) wh
         sixth = p .sixth;
       })
 
-  pub array-fact : 1 ≤ count → count ≤ arrayCountMax → isFact (withField field.count count (withField field.kind kindArray n)) ≡ true
+  pub array-fact : 1 ≤ count → count ≤ arrayCountMax → isRecord (withField field.count count (withField field.kind kindArray n)) ≡ true
   unfolding withField
   array-fact c1 c2 =
       let p = fact-parts n h in

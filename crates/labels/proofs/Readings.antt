@@ -1,10 +1,8 @@
 -- What is read of a label. Assumes nothing.
 use Prim.Native.Nat.{ℕ, _+_}
-use mathlib.Core.Path.{_≡_, sym, ap, _∙_}
-use mathlib.Core.Bool.{cond}
+use mathlib.Core.Path.{_≡_}
 use mathlib.Core.List.{List}
 use borrow.Author.Tests.{eq-eqb, ne-eqb}
-use lib.Dec.{eqb}
 use lib.ListN.{getD}
 use Rattle.limits.specs.Layout.{labelOffset, labelPath, labelAdded, labelMasked, labelMask, labelCallData, labelArgument, labelZeroTest, slotLabel, stepOp, stepPc, stepFirst, stepSecond, stepPick, stepLoad}
 use Rattle.word.specs.Numbers.{limbsAt}

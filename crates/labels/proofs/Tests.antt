@@ -1,16 +1,15 @@
 -- What the code's tests of labels answer is what the definitions say. Assumes nothing.
 use Prim.Native.Nat.{ℕ, zero, suc, _+_, _≤_, _<_}
 use mathlib.Core.Path.{_≡_, refl, sym, ap, _∙_}
-use mathlib.Core.Bool.{Bool, true, false, cond, _&&_, and-false}
+use mathlib.Core.Bool.{Bool, true, false, _&&_, and-false}
 use mathlib.Core.List.{List}
 use mathlib.Core.Logic.{_⊎_, ⊎-elim}
 use native.Mathlib.Nat.{eq-or-lt-of-le}
 use native.Mathlib.Numerals.{add-one}
 use native.Mathlib.Omega.{arith}
-use borrow.Author.Tests.{eq-eqb, ne-eqb, le-leb, lt-leb, not-true, not-false}
+use borrow.Author.Tests.{eq-eqb, ne-eqb, le-leb, lt-leb}
 use lib.Dec.{eqb, leb}
 use lib.ListN.{getD}
-use Rattle.limits.specs.Between.{between}
 use Rattle.limits.specs.Layout.{labelOffset, labelPath, labelMasked, labelMask, labelCallData, labelZeroTest, entryReplaced, entryLabel}
 use Rattle.labels.specs.Formed.{allTo, zeros, isMask, isLabel, isEntry}
 

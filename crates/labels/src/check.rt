@@ -2,7 +2,7 @@
 ghost use mathlib.Core.Path.{_≡_};
 ghost use Prim.Native.Nat.{_+_, _*_, _/_, _≤_};
 ghost use lib.ListN.{length};
-ghost use Rattle.limits.specs.Layout.{labelWidth, slotWidth, entryWidth};
+ghost use Rattle.limits.specs.Layout.{labelWidth, entryWidth};
 ghost use Rattle.labels.specs.Formed.{zeros, isMask, isLabel, isEntry, areSlots, areEntries};
 use limits::layout::ENTRY_LABEL;
 use limits::layout::ENTRY_REPLACED;

@@ -1,5 +1,4 @@
 // A length multiplied, and MUL.
-ghost use mathlib.Core.Path.{_≡_};
 ghost use Prim.Native.Nat.{_≤_, _<_};
 ghost use lib.ListN.{length};
 ghost use Rattle.limits.specs.Layout.{slotWidth};

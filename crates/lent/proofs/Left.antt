@@ -10,7 +10,7 @@ use types.Kit.{Given}
 use denote.Exit.{Kept, left}
 use denote.Signature.{Slot}
 use denote.Triple.End.{Kepts}
-use denote.Triple.Walked.{Stay, Stays, Goes, AllGo}
+use denote.Triple.Walked.{Stay, Stays, AllGo}
 
 module _ {n : ℕ} where
   abbrev pub stay-left : (s : Slot n) (k : Kept) → Stay s k

@@ -1,22 +1,21 @@
 -- The type of a fact in terms of its children's types: how many levels are allowed tells nothing, once there are enough. Assumes nothing.
-use Prim.Native.Nat.{ℕ, zero, suc, _+_, _-_, _*_, _/_, _≤_, _<_, max}
-use mathlib.Core.Path.{_≡_, refl, sym, ap, _∙_}
+use Prim.Native.Nat.{ℕ, zero, suc, _-_, _*_, _/_, _≤_, _<_, max}
+use mathlib.Core.Path.{_≡_, refl, ap}
 use mathlib.Core.Bool.{Bool, true, false, false≢true, cond, not, _&&_}
 use mathlib.Core.List.{List}
 use native.Mathlib.Omega.{arith}
 use lib.Dec.{eqb}
 use lib.ListN.{length}
-use borrow.Author.Tests.{eqb-true, eqb-false}
+use borrow.Author.Tests.{eqb-false}
 use Rattle.limits.specs.Limits.{wordBytes}
 use Rattle.names.specs.Elementary.{ofCode}
 use Rattle.types.specs.Tree.{AbiType, AbiTypes, elementary, cons, count}
 use Rattle.facts.specs.State.{Node, nodeOf}
 use Rattle.paths.specs.Find.{findIn}
 use Rattle.paths.specs.Order.{Ordered}
-use Rattle.paths.proofs.Reach.{Named}
 use Rattle.paths.proofs.Lookups.{found-node, found-above}
 use Rattle.list.specs.Seen.{childrenIn, isEmpty, lastKey, lastWord}
-use Rattle.list.specs.Types.{uint256, nameHolds, endKey, startWord, wordCount, byKind, hasWord, wordsWith, typeAt, typeOf, wordTypes}
+use Rattle.list.specs.Types.{uint256, nameHolds, endKey, startWord, wordCount, byKind, hasWord, wordsWith, typeAt, typeOf}
 
 -- a list has as many types as it has words
 pub count-words : (f : ℕ → AbiType) (s : List Node) (r w n : ℕ) → count (wordsWith f s r w n) ≡ n

@@ -15,7 +15,6 @@ use Rattle.facts.specs.State.{Node, bare, nodeOf}
 use Rattle.facts.proofs.Laws.{lt-or-ge}
 use Rattle.paths.specs.Update.{withField, update}
 use Rattle.paths.specs.Order.{Ordered}
-use Rattle.paths.specs.Find.{findTo, findIn}
 use Rattle.paths.proofs.Kept.{length-update}
 use Rattle.marks.specs.Names.{isRange, dropName}
 use Rattle.marks.specs.Hints.{withoutRange, dropRange, clearRangeHints}

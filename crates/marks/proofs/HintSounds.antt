@@ -6,7 +6,7 @@ use mathlib.Core.List.{List, map}
 use Rattle.limits.specs.Codes as code
 use Rattle.limits.specs.Fields as field
 use Rattle.facts.specs.State.{Node}
-use Rattle.facts.specs.Fact.{isFact}
+use Rattle.facts.specs.Fact.{isRecord}
 use Rattle.facts.specs.Formed.{Formed}
 use Rattle.paths.specs.Update.{withField}
 use Rattle.paths.specs.Adds.{SamePaths}
@@ -25,10 +25,10 @@ without-part g e n = go (isRange n)
     go true = e n
     go false = refl
 
-without-fact : (n : Node) → isFact n ≡ true → isFact (withoutRange n) ≡ true
+without-fact : (n : Node) → isRecord n ≡ true → isRecord (withoutRange n) ≡ true
 without-fact n h = go (isRange n)
   where
-    go : (b : Bool) → isFact (cond b (withField field.confidence 0 (withField field.name code.noName n)) n) ≡ true
+    go : (b : Bool) → isRecord (cond b (withField field.confidence 0 (withField field.name code.noName n)) n) ≡ true
     go true = drop-fact n h
     go false = h
 

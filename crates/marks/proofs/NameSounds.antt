@@ -12,7 +12,7 @@ use Rattle.limits.specs.Fields as field
 use Rattle.limits.specs.Limits.{confidenceMax}
 use Rattle.names.specs.Elementary.{isName}
 use Rattle.facts.specs.State.{Node, nodeOf}
-use Rattle.facts.specs.Fact.{isBare, isFact}
+use Rattle.facts.specs.Fact.{isBare, isRecord}
 use Rattle.facts.specs.Formed.{Formed}
 use Rattle.facts.proofs.Whole.{fact-parts, parts-fact, bare-zeros}
 use Rattle.paths.specs.Update.{withField, update}
@@ -33,9 +33,9 @@ unfolding isName
 name-some name h z = true≢false (sym h ∙ ap isName z)
 
 -- a fact with another name
-pub name-fact : (n : Node) (name confidence : ℕ) → isFact n ≡ true → n .seen ≡ 1 → isName name ≡ true → 1 ≤ confidence
+pub name-fact : (n : Node) (name confidence : ℕ) → isRecord n ≡ true → n .seen ≡ 1 → isName name ≡ true → 1 ≤ confidence
     → confidence ≤ confidenceMax
-    → isFact (withField field.confidence confidence (withField field.name name n)) ≡ true
+    → isRecord (withField field.confidence confidence (withField field.name name n)) ≡ true
 unfolding withField
 name-fact n name confidence h y a c1 c2 =
     let p = fact-parts n h in
@@ -50,7 +50,7 @@ name-fact n name confidence h y a c1 c2 =
     })
 
 -- with none
-pub drop-fact : (n : Node) → isFact n ≡ true → isFact (withField field.confidence 0 (withField field.name code.noName n)) ≡ true
+pub drop-fact : (n : Node) → isRecord n ≡ true → isRecord (withField field.confidence 0 (withField field.name code.noName n)) ≡ true
 unfolding withField
 drop-fact n h =
     let p = fact-parts n h in
@@ -68,7 +68,7 @@ drop-fact n h =
     go false e = let z = bare-zeros n e in λ i. eqb (z .blocked i) 0 && eqb (z .kind i) 0 && eqb (z .count i) 0 && true && true
 
 -- marked not-bool, seen or not
-pub mark-fact : (n : Node) → isFact n ≡ true → isFact (withField field.notBool 1 n) ≡ true
+pub mark-fact : (n : Node) → isRecord n ≡ true → isRecord (withField field.notBool 1 n) ≡ true
 unfolding withField
 mark-fact n h =
     let p = fact-parts n h in
@@ -83,7 +83,7 @@ mark-fact n h =
     })
 
 -- blocked, if it is seen
-pub block-fact : (n : Node) (v : ℕ) → isFact n ≡ true → n .seen ≡ 1 → v ≤ 1 → isFact (withField field.blocked v n) ≡ true
+pub block-fact : (n : Node) (v : ℕ) → isRecord n ≡ true → n .seen ≡ 1 → v ≤ 1 → isRecord (withField field.blocked v n) ≡ true
 unfolding withField
 block-fact n v h y l =
     let p = fact-parts n h in
@@ -97,12 +97,12 @@ block-fact n v h y l =
       sixth = p .sixth;
     })
 
-pub blocked-most : (n : Node) → isFact n ≡ true → n .blocked ≤ 1
+pub blocked-most : (n : Node) → isRecord n ≡ true → n .blocked ≤ 1
 blocked-most n h = leb-true (n .blocked) 1 (flags-parts n (fact-parts n h .first) .blocked)
 
 -- at a node other than the root
 module _ (s : List Node) (r : ℕ) (F : Formed s) (r1 : 1 < r) (rs : r ≤ length s) where
-  fact-at : isFact (nodeOf s r) ≡ true
+  fact-at : isRecord (nodeOf s r) ≡ true
   fact-at = F .fact r (omega arith) rs
 
   pub formed-name : (name confidence : ℕ) → nodeOf s r .seen ≡ 1 → isName name ≡ true → 1 ≤ confidence → confidence ≤ confidenceMax

@@ -15,7 +15,7 @@ use Rattle.limits.specs.Fields as field
 use Rattle.facts.specs.Table.{keyOf, parentOf, childOf, nextOf, confidenceOf}
 use Rattle.facts.specs.Links.{Kid, First}
 use Rattle.facts.specs.State.{Node, nodes, nodeOf}
-use Rattle.facts.specs.Fact.{isBare, isFact}
+use Rattle.facts.specs.Fact.{isBare, isRecord}
 use Rattle.facts.proofs.Encode.{length-nodes, nodes-get}
 use Rattle.facts.proofs.Whole.{fact-parts, bare-zeros}
 use Rattle.paths.specs.Shape.{Shaped}
@@ -160,7 +160,7 @@ root-cleared t t′ used N S S′ D =
     record { shaped = S′; state = all-cleared (nodes t used) (nodes t′ used) (shaped-ordered t used N S) D }
 
 -- an unseen fact has no range name to drop, so that clearing all facts is clearing the seen ones
-pub unseen-cleared : (n : Node) → isFact n ≡ true → n .seen ≡ 0 → withoutRange n ≡ n
+pub unseen-cleared : (n : Node) → isRecord n ≡ true → n .seen ≡ 0 → withoutRange n ≡ n
 unfolding withField
 unseen-cleared n f z =
     let b : isBare n ≡ true = sym (ap (λ (v : ℕ). leb 1 v || isBare n) z) ∙ fact-parts n f .second in

@@ -1,6 +1,6 @@
 // Names and not-bool marks: `set_tname`, `mark_not_bool`, and the range rule's own mark.
 ghost use mathlib.Core.Path.{_≡_};
-ghost use Prim.Native.Nat.{_+_, _≤_, _<_};
+ghost use Prim.Native.Nat.{_≤_, _<_};
 ghost use Rattle.limits.specs.Limits.{recordsMax};
 ghost use Rattle.facts.specs.State.{nodes};
 ghost use Rattle.paths.specs.Shape.{Shaped};

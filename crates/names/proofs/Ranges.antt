@@ -1,11 +1,11 @@
 -- `isName` in each range of codes. Assumes nothing.
-use mathlib.Core.Path.{_≡_, refl, sym, ap, _∙_}
-use mathlib.Core.Bool.{Bool, true, false, _&&_, _||_, and-false, or-false}
+use mathlib.Core.Path.{_≡_}
+use mathlib.Core.Bool.{Bool, false, _&&_, and-false, or-false}
 use Prim.Native.Nat.{ℕ, _-_, _≤_, _<_}
 use native.Mathlib.Omega.{arith}
 use borrow.Author.Tests.{le-leb, lt-leb}
 use lib.Dec.{leb}
-use Rattle.names.specs.Elementary.{isBits, isBytes, isName}
+use Rattle.names.specs.Elementary.{isBits, isName}
 
 not-bits : (n : ℕ) → 256 < n → isBits n ≡ false
 not-bits n h = simp (lt-leb n 256 h, and-false)

@@ -1,12 +1,11 @@
 -- A decision over an opcode equals its list at all 256 opcodes, by one test that antt computes over them. Assumes nothing.
 use mathlib.Core.Path.{_≡_, refl, sym, subst}
 use mathlib.Core.Bool.{Bool, true, false, _&&_, Bool·beq}
-use Prim.Native.Nat.{ℕ, zero, suc, _≤_, _<_, _^_}
+use Prim.Native.Nat.{ℕ, zero, suc, _<_, _^_}
 use native.Mathlib.Nat.{not-suc-le-zero}
 use native.Mathlib.Omega.{arith}
 use native.Mathlib.Decide.{ℕ-discrete}
 use lib.Dec.{T}
-use lib.Arith.{lt-of-le-ne}
 
 -- do f and g agree at each number below n?
 abbrev pub agree : (ℕ → Bool) → (ℕ → Bool) → ℕ → Bool

@@ -1,5 +1,4 @@
 // One list of operations on a fresh table.
-ghost use mathlib.Core.Path.{_≡_};
 ghost use Prim.Native.Nat.{_≤_};
 ghost use Rattle.limits.specs.Limits.{recordsMax};
 ghost use Rattle.paths.specs.Shape.{Shaped};

@@ -1,5 +1,4 @@
 // What is written.
-ghost use mathlib.Core.Path.{_≡_};
 ghost use Prim.Native.Nat.{_≤_};
 ghost use Rattle.limits.specs.Limits.{recordsMax};
 ghost use Rattle.facts.specs.Table.{HasRecord};

@@ -3,7 +3,7 @@
 use Prim.Native.Nat.{ℕ, _≤_}
 use mathlib.Core.Path.{_≡_}
 use mathlib.Core.Bool.{true}
-use mathlib.Core.List.{List, map}
+use mathlib.Core.List.{List}
 use Rattle.limits.specs.Limits.{confidenceMax, arrayCountMax, dynamicCountMax}
 use Rattle.names.specs.Elementary.{isName}
 use Rattle.facts.specs.State.{Node, nodes}

@@ -13,7 +13,7 @@ use lib.Seq.{getD-set-same}
 use borrow.Author.Tests.{eqb-true}
 use Rattle.limits.specs.Fields as field
 use Rattle.facts.specs.State.{Node, bare, root, nodes, nodeOf, encode}
-use Rattle.facts.specs.Fact.{areFlags, isFact}
+use Rattle.facts.specs.Fact.{areFlags, isRecord}
 use Rattle.facts.specs.Sound.{Sound}
 use Rattle.facts.specs.Formed.{Formed, TableOf}
 use Rattle.facts.proofs.Encode.{length-nodes}
@@ -60,7 +60,7 @@ module _ (s : List Node) (F : Formed s) where
   formed-under = record { parent = F .seen-parent }
 
   -- a state with the same paths
-  pub formed-alike : (s′ : List Node) → Alike s s′ → nodeOf s′ 1 ≡ root → ((q : ℕ) → 1 ≤ q → q ≤ length s → isFact (nodeOf s′ q) ≡ true)
+  pub formed-alike : (s′ : List Node) → Alike s s′ → nodeOf s′ 1 ≡ root → ((q : ℕ) → 1 ≤ q → q ≤ length s → isRecord (nodeOf s′ q) ≡ true)
       → UnderSeen s′ → Formed s′
   formed-alike s′ A e f U = let l = A .size in record {
     some = let h = F .some in omega arith;
@@ -101,7 +101,7 @@ pub parts-flags : (n : Node) → Flags n → areFlags n ≡ true
 parts-flags n f = λ i. f .seen i && f .notBool i && f .blocked i
 
 -- a fact made seen is a fact
-seen-fact : (n : Node) → isFact n ≡ true → isFact (withField field.seen 1 n) ≡ true
+seen-fact : (n : Node) → isRecord n ≡ true → isRecord (withField field.seen 1 n) ≡ true
 unfolding withField
 seen-fact n h =
     let p = fact-parts n h in
@@ -125,12 +125,12 @@ pub formed-seen : (s : List Node) (r : ℕ) → Formed s → r ≤ length s → 
 formed-seen s r F h =
     formed-alike s F (makeSeen s r) (alike-seen s r)
     (seen-keeps (λ x. nodeOf x 1 ≡ root) (λ x c e. update-keeps (λ n. n ≡ root) x c field.seen 1 1 seen-root e) s r (F .first))
-    (λ q q1 qs. seen-keeps (λ x. isFact (nodeOf x q) ≡ true) (λ x c e. update-keeps (λ n. isFact n ≡ true) x c field.seen 1 q seen-fact e) s r (F .fact q q1 qs))
+    (λ q q1 qs. seen-keeps (λ x. isRecord (nodeOf x q) ≡ true) (λ x c e. update-keeps (λ n. isRecord n ≡ true) x c field.seen 1 q seen-fact e) s r (F .fact q q1 qs))
     (under-seen s r (formed-ordered s F) h (formed-under s F))
 
 -- a new node
-bare-fact : (p k : ℕ) → isFact (bare p k) ≡ true
-unfolding isFact
+bare-fact : (p k : ℕ) → isRecord (bare p k) ≡ true
+unfolding isRecord
 bare-fact p k = refl
 
 module _ (s : List Node) (p k : ℕ) (F : Formed s) (p1 : 1 ≤ p) (ps : p ≤ length s) where
@@ -176,9 +176,9 @@ module _ (s : List Node) (p k : ℕ) (F : Formed s) (p1 : 1 ≤ p) (ps : p ≤ l
     first = add-node s (bare p k) 1 (omega arith) (F .some) ∙ F .first;
     lower = O .lower;
     distinct = apart z;
-    fact = λ r r1 h. old-or-new (isFact (nodeOf More r) ≡ true) r h
-        (λ (o : r ≤ length s). ap isFact (add-node s (bare p k) r r1 o) ∙ F .fact r r1 o)
-        (λ (e : r ≡ length s + 1). ap isFact (new-node r e) ∙ bare-fact p k);
+    fact = λ r r1 h. old-or-new (isRecord (nodeOf More r) ≡ true) r h
+        (λ (o : r ≤ length s). ap isRecord (add-node s (bare p k) r r1 o) ∙ F .fact r r1 o)
+        (λ (e : r ≡ length s + 1). ap isRecord (new-node r e) ∙ bare-fact p k);
     seen-parent = U .parent;
   }
 
@@ -225,7 +225,7 @@ module _ (s : List Node) (r : ℕ) (r1 : 1 ≤ r) (rs : r ≤ length s) where
 
 -- a fact other than the root changed to another fact of the same path, as seen as it was
 formed-changed : (s s′ : List Node) (r : ℕ) (n : Node) → Formed s → Alike s s′ → Changed s s′ r n → 1 < r → n .seen ≡ nodeOf s r .seen
-    → isFact n ≡ true → Formed s′
+    → isRecord n ≡ true → Formed s′
 formed-changed s s′ r n F A C r1 e f =
     formed-alike s F s′ A (C .other 1 (omega arith) (λ z. omega arith) ∙ F .first) (λ q q1 h. fact q q1 h (ℕ-discrete q r))
     (record {
@@ -234,9 +234,9 @@ formed-changed s s′ r n F A C r1 e f =
           ∙ F .seen-parent q q1 (omega arith) (sym (seen q (omega arith) (ℕ-discrete q r)) ∙ y);
     })
   where
-    fact : (q : ℕ) → 1 ≤ q → q ≤ length s → Dec (q ≡ r) → isFact (nodeOf s′ q) ≡ true
-    fact q q1 h (yes z) = ap isFact (ap (nodeOf s′) z ∙ C .here) ∙ f
-    fact q q1 h (no d) = ap isFact (C .other q q1 d) ∙ F .fact q q1 h
+    fact : (q : ℕ) → 1 ≤ q → q ≤ length s → Dec (q ≡ r) → isRecord (nodeOf s′ q) ≡ true
+    fact q q1 h (yes z) = ap isRecord (ap (nodeOf s′) z ∙ C .here) ∙ f
+    fact q q1 h (no d) = ap isRecord (C .other q q1 d) ∙ F .fact q q1 h
 
     seen : (q : ℕ) → 1 ≤ q → Dec (q ≡ r) → nodeOf s′ q .seen ≡ nodeOf s q .seen
     seen q q1 (yes z) =
@@ -245,13 +245,13 @@ formed-changed s s′ r n F A C r1 e f =
 
 -- one field of such a fact changed, and two
 module _ (s : List Node) (r : ℕ) (F : Formed s) (r1 : 1 < r) (rs : r ≤ length s) where
-  pub formed-once : (f v : ℕ) → withField f v (nodeOf s r) .seen ≡ nodeOf s r .seen → isFact (withField f v (nodeOf s r)) ≡ true
+  pub formed-once : (f v : ℕ) → withField f v (nodeOf s r) .seen ≡ nodeOf s r .seen → isRecord (withField f v (nodeOf s r)) ≡ true
       → Formed (update s r f v)
   formed-once f v e h =
       formed-changed s (update s r f v) r (withField f v (nodeOf s r)) F (alike-update s r f v) (changed-once s r (omega arith) rs f v) r1 e h
 
   pub formed-twice : (f v g w : ℕ) → withField g w (withField f v (nodeOf s r)) .seen ≡ nodeOf s r .seen
-      → isFact (withField g w (withField f v (nodeOf s r))) ≡ true
+      → isRecord (withField g w (withField f v (nodeOf s r))) ≡ true
       → Formed (update (update s r f v) r g w)
   formed-twice f v g w e h =
       formed-changed s (update (update s r f v) r g w) r (withField g w (withField f v (nodeOf s r))) F (alike-twice s r f v g w)
@@ -264,9 +264,9 @@ formed-cond false x y F G = G
 -- each node changed
 pub formed-map : (f : Node → Node) → f (bare 0 0) ≡ bare 0 0 → f root ≡ root → ((n : Node) → f n .key ≡ n .key)
     → ((n : Node) → f n .parent ≡ n .parent)
-    → ((n : Node) → f n .seen ≡ n .seen) → ((n : Node) → isFact n ≡ true → isFact (f n) ≡ true) → (s : List Node) → Formed s → Formed (map f s)
+    → ((n : Node) → f n .seen ≡ n .seen) → ((n : Node) → isRecord n ≡ true → isRecord (f n) ≡ true) → (s : List Node) → Formed s → Formed (map f s)
 formed-map f e er key parent seen fact s F =
-    formed-alike s F (map f s) A (got 1 ∙ ap f (F .first) ∙ er) (λ q q1 h. ap isFact (got q) ∙ fact (nodeOf s q) (F .fact q q1 h))
+    formed-alike s F (map f s) A (got 1 ∙ ap f (F .first) ∙ er) (λ q q1 h. ap isRecord (got q) ∙ fact (nodeOf s q) (F .fact q q1 h))
     (record {
       parent = λ q q1 h y. let l = A .size in
           ap (λ (x : ℕ). nodeOf (map f s) x .seen) (A .parent q) ∙ same (nodeOf s q .parent) ∙ F .seen-parent q q1 (omega arith) (sym (same q) ∙ y);

@@ -1,6 +1,6 @@
 -- Facts that some bench readings begin with. Assumes nothing: these are definitions.
 use Prim.Native.Nat.{ℕ, zero, suc}
-use mathlib.Core.List.{List, [], _∷_, _++_}
+use mathlib.Core.List.{List, [], _∷_}
 use Rattle.facts.specs.State.{Node, root}
 
 -- a fact with no mark, at a key of record p

@@ -6,7 +6,6 @@ use mathlib.Core.Bool.{Bool, true, false, _&&_}
 use mathlib.Core.List.{List, [], _∷_, _++_}
 use lib.Dec.{T, ltb, lit<}
 use Rattle.opcode.specs.Opcode.{CALLDATALOAD, MUL}
-use Rattle.labels.specs.declared.Label.{Label}
 use Rattle.labels.specs.declared.Label.the-variants.{Unlabelled, Arg}
 use Rattle.labels.specs.declared.Mask.the-variants.{Unmasked}
 use Rattle.labels.specs.Label.{labelNumbers}

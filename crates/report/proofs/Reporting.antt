@@ -1,13 +1,13 @@
 -- The text of each answer, and that it is the text of the closing's outcome. Assumes nothing.
-use Prim.Native.Nat.{ℕ, suc, _+_, _*_, _-_, _≤_}
+use Prim.Native.Nat.{ℕ, _+_, _-_}
 use mathlib.Core.Path.{_≡_, refl, sym, ap, subst, _∙_}
-use mathlib.Core.Bool.{Bool, true, false, cond}
-use mathlib.Core.List.{List, [], _++_}
+use mathlib.Core.Bool.{Bool, true, false}
+use mathlib.Core.List.{List}
 use native.Mathlib.Omega.{arith}
 use lib.Dec.{eqb}
 use lib.ListN.{length, drop}
 use lib.Seq.{sets}
-use Rattle.types.specs.Tree.{AbiTypes, nil, count, wellFormed, allWellFormed}
+use Rattle.types.specs.Tree.{AbiTypes, nil, wellFormed}
 use Rattle.types.specs.Codes.{codes, allCodes}
 use Rattle.facts.specs.Sound.{Sound}
 use Rattle.facts.specs.Formed.{Formed}
@@ -23,10 +23,10 @@ use Rattle.closing.specs.declared.Closing.{Closing}
 use Rattle.closing.specs.declared.Closing.the-variants.{NoRecords, Unsound, LongCode, ShortTypes, NoRoom, Nothing, Over}
 use Rattle.closing.specs.declared.Closing.the-variants.{Granted as GrantedAnswer}
 use Rattle.closing.specs.declared.Granted.{Granted}
-use Rattle.closing.specs.Answer.{Verdict, refused, none, over, granted, verdictOf, numberOf, isGranted, answerOf, withList, typesAfter}
+use Rattle.closing.specs.Answer.{Verdict, refused, none, over, granted, verdictOf, numberOf, answerOf, typesAfter}
 use Rattle.closing.specs.Words.{Handed, fillWords, filled}
-use Rattle.closing.specs.Call.{Lent, Outcome, unfit, unsound, judged, refusal, judge, leftBy, Judged}
-use Rattle.report.specs.Answer.{noneLine, overLine, answerText, HasEntries, Reported}
+use Rattle.closing.specs.Call.{Lent, Outcome, unfit, unsound, judged, refusal, judge, Judged}
+use Rattle.report.specs.Answer.{noneLine, overLine, answerText, Reported}
 
 module _ (answer : Closing) (cs out : List ℕ) (r : ℕ) (out′ : List ℕ) where
   by : (v : Verdict) → verdictOf answer ≡ v → Reported v cs out r out′ → Reported (verdictOf answer) cs out r out′

@@ -1,5 +1,4 @@
 // What is printed of a closing, on slices: `refused N at 0`, `none`, `over` or the list.
-ghost use mathlib.Core.Path.{_≡_};
 ghost use Prim.Native.Nat.{_≤_};
 ghost use lib.ListN.{length};
 ghost use Rattle.limits.specs.Limits.{codesMax};

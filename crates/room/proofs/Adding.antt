@@ -1,10 +1,9 @@
 -- `length-analyze`: a step adds exactly those of the paths that it makes which are missing. Assumes nothing.
-use Prim.Native.Nat.{ℕ, _+_, _-_, _≤_, _<_}
+use Prim.Native.Nat.{ℕ, _+_, _-_, _≤_}
 use mathlib.Core.Path.{_≡_, refl, sym, ap, subst, _∙_}
-use mathlib.Core.Bool.{Bool, true, false, cond, not, _&&_, _||_, and-eq-true-iff}
+use mathlib.Core.Bool.{Bool, true, false, cond, _&&_, and-eq-true-iff}
 use mathlib.Core.List.{List}
-use mathlib.Core.Logic.{_⊎_, ⊎-elim}
-use native.Mathlib.Nat.{eq-or-lt-of-le, add-zero}
+use native.Mathlib.Nat.{add-zero}
 use native.Mathlib.Omega.{arith}
 use lib.Dec.{eqb}
 use lib.ListN.{length}
@@ -12,10 +11,8 @@ use borrow.Author.Tests.{eqb-true, eq-eqb}
 use Rattle.limits.specs.Codes.{uint}
 use Rattle.limits.specs.Confidences.{byRange}
 use Rattle.facts.specs.State.{Node, nodeOf}
-use Rattle.paths.specs.Find.{findIn}
-use Rattle.paths.specs.Make.{ensure, missing, getOrCreate}
-use Rattle.paths.specs.Adds.{SamePaths, AddsPath}
-use Rattle.paths.proofs.Reach.{length-ensure, length-create}
+use Rattle.paths.specs.Make.{ensure, missing}
+use Rattle.paths.proofs.Reach.{length-ensure}
 use Rattle.paths.proofs.Finds.{missing-some}
 use Rattle.paths.proofs.Lookups.{none-found}
 use Rattle.paths.proofs.Adds.{adds-ensure, adds-missing, adds-missing-else, same-missing}
@@ -29,7 +26,7 @@ use Rattle.labels.specs.declared.Label.the-variants.{Unlabelled, CallData, Arg,
 use Rattle.labels.specs.Operands.{onArg, onZeroTest}
 use Rattle.analyze.specs.Machine.{marked, named, markedNamed}
 use Rattle.analyze.specs.Length.{unlessRange, lengthMarked, pathNamed}
-use Rattle.analyze.specs.Load.{followed, newOffset}
+use Rattle.analyze.specs.Load.{followed}
 use Rattle.analyze.specs.Phases.{rangeNamed}
 use Rattle.room.specs.declared.Touched.{Touched}
 use Rattle.room.specs.declared.Touched.the-variants as touched

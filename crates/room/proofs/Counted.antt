@@ -1,6 +1,6 @@
 -- `length-analyze`, arm by arm: a step adds exactly those of the paths that it makes which are missing. Assumes nothing.
 use Prim.Native.Nat.{ℕ, _+_, _-_, _*_, _≤_}
-use mathlib.Core.Path.{_≡_, refl, sym, ap, subst, _∙_}
+use mathlib.Core.Path.{_≡_, refl, sym, subst, _∙_}
 use mathlib.Core.Bool.{Bool, true, false, cond, not, _&&_, _||_}
 use mathlib.Core.List.{List}
 use native.Mathlib.Omega.{arith}
@@ -17,7 +17,6 @@ use Rattle.opcode.specs.Opcode.{ADD, MUL, SDIV, SMOD, SIGNEXTEND, LT, GT, EQ, I
 use Rattle.opcode.specs.Lists.{listed, calls, operandClearers}
 use Rattle.mask.specs.Mask.{andMaskToType}
 use Rattle.facts.specs.State.{Node}
-use Rattle.paths.specs.Make.{missing, getOrCreate}
 use Rattle.paths.specs.Adds.{SamePaths}
 use Rattle.paths.proofs.Reach.{length-create}
 use Rattle.paths.proofs.Adds.{same-missing}
@@ -32,7 +31,7 @@ use Rattle.labels.specs.declared.Mask.the-variants.{Unmasked, Masked}
 use Rattle.labels.specs.declared.Step.{Step}
 use Rattle.labels.specs.declared.Choice.{Choice}
 use Rattle.labels.specs.declared.Choice.the-variants.{Chosen, Neither}
-use Rattle.labels.specs.Operands.{onArg, isAny, isLength, isPlainLength, isPlain, choose, sameArg}
+use Rattle.labels.specs.Operands.{isAny, isLength, isPlainLength, isPlain, choose, sameArg}
 use Rattle.args.proofs.Flow.{arg-reaches, choice-reaches}
 use Rattle.analyze.specs.declared.Comparison.{Comparison}
 use Rattle.analyze.specs.declared.Comparison.the-variants.{Of, Nothing}
@@ -40,12 +39,12 @@ use Rattle.analyze.specs.Machine.{Machine, withFacts, marked, named, markedName
 use Rattle.analyze.specs.Phases.{clearOperand, clearOperands, clearHints, comparesWords, comparisonOf, rangeRule, rangedBy, rangeFacts, activeAfter}
 use Rattle.analyze.specs.Load.{isWholeWord, isFollowed, followed, loadedFacts, copiedFacts, unlabelledFacts, toStack, loadFacts}
 use Rattle.analyze.specs.Sum.{oneFacts, addFacts}
-use Rattle.analyze.specs.Length.{isPlace, lengthMarked, multiplied, multiply, markFirst, mulBy, mul, bytesShift, bytesNamed, shiftNamed, shlOf, shl, comparedFacts, compareFacts}
+use Rattle.analyze.specs.Length.{isPlace, lengthMarked, multiplied, multiply, markFirst, mulBy, mul, bytesShift, bytesNamed, shiftNamed, shl, comparedFacts, compareFacts}
 use Rattle.code.specs.Guard.{guardFailurePc, isDivisionCheck}
-use Rattle.analyze.specs.Name.{widthName, call, mstore8, shrNamed, shr, signedFirst, signed, andFirst, andFacts, eqMasked, eqBoth, eq, isZeroFacts, signExtend, byte}
+use Rattle.analyze.specs.Name.{widthName, call, mstore8, shr, signedFirst, signed, andFirst, andFacts, eqMasked, eqBoth, eq, isZeroFacts, signExtend, byte}
 use Rattle.analyze.specs.Arms.{Arms, byOpcode, arms}
 use Rattle.analyze.specs.Analyze.{analyze}
-use Rattle.analyze.specs.Ready.{Reaches, LabelReaches, ChoiceReaches, StepReaches}
+use Rattle.analyze.specs.Ready.{ChoiceReaches, StepReaches}
 use Rattle.room.specs.declared.Touched.{Touched}
 use Rattle.room.specs.declared.Touched.the-variants as touched
 use Rattle.room.specs.Touched.{ofVal, ofLabel, ofChoice, ifSo, ofLoad, ofAdd, ofLength, ofMul, ofShl, ofCompared, ofCompare, ofShr, ofMasked, ofEq, ofIsZero, ofExtend, ofArms, ofComparison, touchedBy, addedBy}

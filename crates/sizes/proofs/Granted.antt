@@ -1,5 +1,5 @@
 -- A granted list is one that the text call takes, with an entry for each word of the root. Assumes nothing.
-use Prim.Native.Nat.{ℕ, zero, suc, _+_, _*_, _≤_}
+use Prim.Native.Nat.{suc, _+_, _*_, _≤_}
 use mathlib.Core.Path.{_≡_, refl, ap}
 use mathlib.Core.Bool.{true, and-eq-true-iff}
 use mathlib.Core.List.{List}

@@ -13,7 +13,7 @@ use Rattle.names.specs.Elementary.{bytes, ofCode, goodWidth}
 use Rattle.names.proofs.Codes.{name-has-width}
 use Rattle.types.specs.Tree.{AbiType, AbiTypes, elementary, array, nil, cons, count, wellFormed, allWellFormed}
 use Rattle.types.proofs.Formed.{head-formed, tail-formed, cons-formed, tuple-formed}
-use Rattle.facts.specs.Fact.{isFact}
+use Rattle.facts.specs.Fact.{isRecord}
 use Rattle.facts.specs.Formed.{Formed}
 use Rattle.facts.specs.State.{Node, nodeOf}
 use Rattle.facts.proofs.Whole.{fact-parts}
@@ -57,7 +57,7 @@ holds-some n b h z = go (eqb (n .name) code.noName) (eq-eqb (n .name) code.noNam
     go true e x = let y : _≡_ {A = ℕ} 0 1 = ap (λ (v : Bool). cond v 1 0) x in omega arith
     go false e x = let y : _≡_ {A = ℕ} 0 1 = ap (λ (v : Bool). cond v 1 0) e in omega arith
 
-holds-formed : (n : Node) (b : Bool) → isFact n ≡ true → nameHolds n b ≡ true → wellFormed (elementary (ofCode (n .name))) ≡ true
+holds-formed : (n : Node) (b : Bool) → isRecord n ≡ true → nameHolds n b ≡ true → wellFormed (elementary (ofCode (n .name))) ≡ true
 unfolding wellFormed
 holds-formed n b f h =
     name-has-width (n .name) (rw (ne-eqb (n .name) code.noName (holds-some n b h)) at (fact-parts n f .sixth))

@@ -9,7 +9,7 @@ use lib.ListN.{length}
 use borrow.Author.Tests.{eq-eqb, leb-true}
 use Rattle.limits.specs.Limits.{wordBytes, depthMax}
 use Rattle.names.specs.Elementary.{Elementary, bytes, uint, ofCode}
-use Rattle.types.specs.Tree.{AbiType, AbiTypes, elementary, array, tuple, nil, cons, levels, mostLevels}
+use Rattle.types.specs.Tree.{AbiType, AbiTypes, elementary, array, nil, cons, levels, mostLevels}
 use Rattle.facts.specs.Formed.{Formed}
 use Rattle.facts.specs.State.{Node, nodeOf, kidsIn}
 use Rattle.paths.specs.Find.{findIn}

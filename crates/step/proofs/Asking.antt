@@ -1,7 +1,7 @@
 -- What the code's tests for questions 3 to 7 answer is what the definitions say. Assumes nothing.
 use Prim.Native.Nat.{ℕ, _+_, _/_, _%_, _^_}
-use mathlib.Core.Path.{_≡_, refl, sym, ap, _∙_}
-use mathlib.Core.Bool.{Bool, true, false, cond, not, _&&_, _||_}
+use mathlib.Core.Path.{_≡_, refl, ap, _∙_}
+use mathlib.Core.Bool.{Bool, true, not, _&&_, _||_}
 use mathlib.Core.List.{List}
 use lib.Dec.{eqb, leb, ltb}
 use lib.ListN.{length, getD}

@@ -1,15 +1,13 @@
 -- `one-outcome`: the step call has one outcome for one input: its number, its head and the lent tables. Assumes nothing.
-use Prim.Native.Nat.{ℕ, _*_, _≤_}
-use mathlib.Core.Path.{_≡_, refl, sym, ap, subst, _∙_}
+use Prim.Native.Nat.{ℕ}
+use mathlib.Core.Path.{_≡_, sym, ap, subst, _∙_}
 use mathlib.Core.Bool.{cond}
 use mathlib.Core.List.{List}
-use native.Mathlib.Omega.{arith}
 use lib.Dec.{eqb}
 use lib.ListN.{length}
-use Rattle.facts.specs.Count.{Counted}
 use Rattle.facts.specs.Sound.{Sound}
 use Rattle.facts.proofs.Counts.{count-once}
-use Rattle.step.specs.Call.{Lent, effect, refusalOf, Judged, Outcome, unfit, unsound, judged}
+use Rattle.step.specs.Call.{Lent, effect, Judged, Outcome, unfit, unsound, judged}
 
 module _ (l : Lent) (bytes x : List ℕ) where
   judged-once : (N n n′ : ℕ) (l₁ l₂ : Lent) → Judged N l bytes x n l₁ → Judged N l bytes x n′ l₂ → (n ≡ n′) × (l₁ ≡ l₂)

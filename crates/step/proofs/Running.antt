@@ -12,7 +12,7 @@ use Rattle.analyze.specs.Machine.{Machine, withFacts}
 use Rattle.analyze.specs.Phases.{clearHints, rangeRule, rangeFacts, activeAfter}
 use Rattle.analyze.specs.Arms.{arm}
 use Rattle.analyze.specs.Analyze.{analyze}
-use Rattle.analyze.specs.Ready.{Ready, StepReaches, Leaves, lent}
+use Rattle.analyze.specs.Ready.{Ready, Leaves, lent}
 
 -- the decoder's phase after the step
 pub still-active : (active e b : Bool) (x : Step) → e ≡ listed (x .op) decoderEnders → b ≡ (active && not e) → b ≡ activeAfter active x

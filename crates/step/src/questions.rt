@@ -1,10 +1,9 @@
 // Questions 3 to 7.
 ghost use mathlib.Core.Path.{_≡_};
-ghost use Prim.Native.Nat.{_≤_};
 ghost use lib.ListN.{length, getD};
-ghost use Rattle.limits.specs.Layout.{stepWidth, stepOp, stepLoadFlag, stepLoad, stepSecond};
+ghost use Rattle.limits.specs.Layout.{stepWidth, stepOp, stepSecond};
 ghost use Rattle.word.specs.Numbers.{wordAt};
-ghost use Rattle.step.specs.Questions.{areWhole, sizesFit, labelsFit, loadFits, copyFits, fieldsFit, slotThere};
+ghost use Rattle.step.specs.Questions.{sizesFit, labelsFit, loadFits, copyFits, fieldsFit, slotThere};
 use labels::are_entries;
 use labels::are_slots;
 use labels::is_label;

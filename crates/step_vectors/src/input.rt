@@ -1,5 +1,4 @@
 // What is read from standard input. At its end all numbers are zero.
-ghost use mathlib.Core.Path.{_≡_};
 ghost use Prim.Native.Nat.{_≤_};
 ghost use lib.ListN.{length};
 use head::Head;

@@ -2,19 +2,17 @@
 use mathlib.Core.Path.{_≡_, refl, sym, ap, _∙_}
 use mathlib.Core.Bool.{Bool, true, false}
 use mathlib.Core.List.{List, [], _∷_, _++_, append-assoc, append-nil}
-use Prim.Native.Nat.{ℕ, suc, _-_, _≤_}
+use Prim.Native.Nat.{ℕ, _-_, _≤_}
 use native.Mathlib.Omega.{arith}
 use borrow.Author.Tests.{lt-leb}
-use Rattle.names.specs.Elementary.{Elementary, codeOf, ofCode, goodWidth}
-use Rattle.names.specs.Text.{nameText}
+use Rattle.names.specs.Elementary.{codeOf}
 use Rattle.names.proofs.Codes.{code-is-name, of-code}
 use Rattle.types.specs.Tree.{AbiType, AbiTypes, elementary, array, tuple, nil, cons, count, wellFormed, allWellFormed}
 use Rattle.types.specs.Codes.{codes, allCodes}
-use Rattle.types.specs.Kind.{kindOf}
-use Rattle.types.specs.Text.{text, listText, moreText, openParen, closeParen, comma, brackets}
+use Rattle.types.specs.Text.{text, listText, moreText, openParen, closeParen, comma}
 use Rattle.types.proofs.Formed.{head-formed, tail-formed, tuple-count, tuple-parts}
 use Rattle.types.proofs.KindLaws.{name-kind, array-kind, tuple-kind}
-use Rattle.text.specs.Machine.{closers, stillOpen, separator, pieceBy, openBy, noneLeft, emit}
+use Rattle.text.specs.Machine.{closers, stillOpen, separator, noneLeft, emit}
 
 -- what is written behind a type: the closers, a comma if more follows, and the rest
 abbrev rest : List ℕ → List ℕ → List ℕ

@@ -1,28 +1,27 @@
 -- The length of the text, code by code, and the count of it from the left. Assumes nothing.
 use mathlib.Core.Path.{_≡_, refl, sym, ap, _∙_}
 use mathlib.Core.Bool.{true}
-use mathlib.Core.List.{List, [], _∷_, _++_}
-use Prim.Native.Nat.{ℕ, zero, suc, _+_, _-_, _*_, _≤_, _<_}
+use mathlib.Core.List.{List, [], _∷_}
+use Prim.Native.Nat.{ℕ, _+_, _-_, _*_, _≤_, _<_}
 use native.Mathlib.Numerals.{add-one}
 use native.Mathlib.Omega.{arith}
 use native.Mathlib.Decide.{ℕ-discrete}
 use lib.ListN.{length, getD, drop, length-append, drop-of-length-le}
 use lib.Seq.{drop-cons}
-use Rattle.names.specs.Elementary.{codeOf, ofCode}
-use Rattle.names.specs.Text.{nameText}
+use Rattle.names.specs.Elementary.{codeOf}
 use Rattle.names.proofs.Codes.{code-is-name, of-code}
-use Rattle.types.specs.Tree.{AbiType, AbiTypes, elementary, array, tuple, nil, cons, count, append, wellFormed, allWellFormed}
+use Rattle.types.specs.Tree.{AbiType, AbiTypes, elementary, array, tuple, nil, cons, count, append, wellFormed}
 use Rattle.types.specs.Codes.{codes, Spells}
 use Rattle.types.specs.Kind.{kindOf}
-use Rattle.types.specs.Text.{text, listText, moreText, openParen, closeParen, brackets}
+use Rattle.types.specs.Text.{text, listText, moreText, closeParen, brackets}
 use Rattle.types.specs.declared.CodeKind.the-variants.{Unknown}
 use Rattle.types.proofs.Formed.{tuple-count}
 use Rattle.types.proofs.KindLaws.{name-kind, array-kind, tuple-kind}
 use Rattle.types.specs.Root.{root, parts}
 use Rattle.types.proofs.Roots.{Follows}
 use Rattle.types.proofs.Sizes.{count-codes}
-use Rattle.types.proofs.Nodes.{Wanted, Step, after, step-wanted, wanted-none, none-wanted, wanted-unknown}
-use Rattle.text.specs.Weight.{ownBy, own, commaBefore}
+use Rattle.types.proofs.Nodes.{Wanted, Step, after, step-wanted, none-wanted, wanted-unknown}
+use Rattle.text.specs.Weight.{own, commaBefore}
 use Rattle.text.proofs.Tallies.{comma-first, comma-none}
 
 -- the texts of the types, without what joins them

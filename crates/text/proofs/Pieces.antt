@@ -7,7 +7,7 @@ use native.Mathlib.Omega.{arith}
 use borrow.Author.Tests.{ne-eqb}
 use lib.ListN.{length, set, length-append}
 use lib.Seq.{sets, length-sets}
-use Rattle.names.specs.Elementary.{isName, ofCode}
+use Rattle.names.specs.Elementary.{ofCode}
 use Rattle.names.specs.Text.{nameText}
 use Rattle.types.specs.declared.CodeKind.{CodeKind}
 use Rattle.types.specs.declared.CodeKind.the-variants.{Name, Array, Tuple, Unknown}

@@ -1,11 +1,11 @@
 -- One code counted, kind by kind. Assumes nothing.
 use mathlib.Core.Path.{_≡_, refl, sym, ap, _∙_}
 use mathlib.Core.Bool.{true}
-use Prim.Native.Nat.{ℕ, _+_, _-_, _^_, _≤_, _<_}
+use Prim.Native.Nat.{ℕ, _+_, _-_, _≤_, _<_}
 use native.Mathlib.Omega.{arith}
 use native.Mathlib.Decide.{decLt}
 use borrow.Author.Tests.{ne-eqb, lt-ltb, le-ltb}
-use lib.ListN.{length, length-append}
+use lib.ListN.{length}
 use Rattle.names.specs.Elementary.{Elementary, bool, address, bytes, string, uint, int, fixedBytes, isName, ofCode}
 use Rattle.names.specs.Text.{decimal, nameText}
 use Rattle.types.specs.declared.CodeKind.{CodeKind}
@@ -14,7 +14,6 @@ use Rattle.types.specs.Kind.{kindOf}
 use Rattle.types.proofs.KindLaws.{kind-name, kind-tuple}
 use Rattle.types.proofs.Roots.{Follows, name-follows, array-follows, tuple-follows}
 use Rattle.text.specs.declared.Tally.{Tally}
-use Rattle.text.specs.declared.Tallied.{Tallied}
 use Rattle.text.specs.declared.Tallied.the-variants.{Code}
 use Rattle.text.specs.declared.Tallied.the-variants.{Unknown as Missed}
 use Rattle.text.specs.Weight.{ownBy, own, commaBefore, talliedBy, tallied}

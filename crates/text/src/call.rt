@@ -1,5 +1,4 @@
 // The public call.
-ghost use mathlib.Core.Path.{_≡_};
 ghost use Rattle.text.specs.Call.{Outcome, numberOf, lengthOf};
 use crate::Measure;
 use crate::TextAnswer;

@@ -1,14 +1,14 @@
 -- An entry's line: its number, a blank, the text that the text call stores behind it, and a newline. Assumes nothing.
 use mathlib.Core.Path.{_≡_, refl, sym, ap, _∙_, subst}
 use mathlib.Core.Bool.{true}
-use mathlib.Core.List.{List, [], _∷_, _++_, append-assoc, append-nil}
-use Prim.Native.Nat.{ℕ, _+_, _-_, _*_, _^_, _≤_, _<_}
+use mathlib.Core.List.{List, [], _++_, append-assoc, append-nil}
+use Prim.Native.Nat.{ℕ, _+_, _-_, _^_, _≤_, _<_}
 use native.Mathlib.Omega.{arith}
 use lib.ListN.{length, take, drop, length-append, length-take, length-drop, drop-of-length-le}
 use lib.Seq.{sets, length-sets, sets-eq, take-all, drop-drop}
 use borrow.Rule.Slice.PartMut.{midOf, postOf, putMid}
 use Rattle.types.specs.Tree.{AbiType, AbiTypes, nil, cons, wellFormed}
-use Rattle.types.specs.Codes.{codes, allCodes, Passes}
+use Rattle.types.specs.Codes.{codes, Passes}
 use Rattle.types.specs.Text.{listText}
 use Rattle.types.proofs.Formed.{cons-formed}
 use Rattle.types.proofs.Unique.{only-types}

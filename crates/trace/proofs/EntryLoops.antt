@@ -1,16 +1,16 @@
 -- The loop over the entries: what is left to write, written, is what there was to write. Assumes nothing.
 use mathlib.Core.Path.{_≡_, refl, sym, ap, _∙_, subst}
 use mathlib.Core.Bool.{true}
-use mathlib.Core.List.{List, [], _∷_, _++_, append-assoc as list-assoc}
+use mathlib.Core.List.{List, _++_, append-assoc as list-assoc}
 use Prim.Native.Nat.{ℕ, suc, _+_, _-_, _*_, _^_, _≤_, _<_}
 use native.Mathlib.Numerals.{add-one}
 use native.Mathlib.Omega.{arith}
 use lib.ListN.{length, take, drop, length-append, length-drop}
 use lib.Seq.{sets, take-all, take-append-seam, drop-append-seam}
-use Rattle.types.specs.Tree.{AbiType, AbiTypes, nil, cons, count, append, wellFormed, allWellFormed}
+use Rattle.types.specs.Tree.{AbiType, AbiTypes, nil, cons, count, append, allWellFormed}
 use Rattle.types.specs.Codes.{codes, allCodes}
 use Rattle.types.specs.Text.{listText}
-use Rattle.types.proofs.Append.{codes-append, count-append, formed-right, append-nil, append-assoc}
+use Rattle.types.proofs.Append.{codes-append, count-append, formed-right, append-assoc}
 use Rattle.types.proofs.Formed.{head-formed}
 use Rattle.types.proofs.Sizes.{count-codes, cons-length}
 use Rattle.spell.proofs.Stores.{sets-append}

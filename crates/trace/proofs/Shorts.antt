@@ -1,5 +1,4 @@
 -- The text of types has at most nine bytes for each of their codes. Assumes nothing.
-use mathlib.Core.Path.{_≡_}
 use mathlib.Core.List.{[], _∷_}
 use Prim.Native.Nat.{ℕ, _+_, _*_, _≤_, _<_}
 use native.Mathlib.Decide.{decLt}

@@ -4,9 +4,8 @@ use mathlib.Core.Bool.{true}
 use mathlib.Core.List.{List, [], _∷_, _++_, append-assoc}
 use Prim.Native.Nat.{ℕ, suc, _+_, _-_, _*_, _≤_, _<_}
 use native.Mathlib.Numerals.{add-one}
-use native.Mathlib.Decide.{ℕ-discrete}
 use native.Mathlib.Omega.{arith}
-use borrow.Author.Tests.{eq-eqb, ne-eqb}
+use borrow.Author.Tests.{ne-eqb}
 use lib.ListN.{length, getD, take, drop, length-append, drop-of-length-le}
 use lib.Seq.{drop-cons, take-append-seam, drop-append-seam}
 use Rattle.types.specs.Tree.{AbiType, AbiTypes, elementary, array, tuple, nil, cons, count, wellFormed, allWellFormed}
@@ -17,7 +16,7 @@ use Rattle.types.specs.declared.CodeKind.the-variants.{Name, Array, Tuple, Unkn
 use Rattle.types.specs.Root.{root, parts}
 use Rattle.types.proofs.KindLaws.{kind-tuple}
 use Rattle.types.proofs.Formed.{head-formed, tail-formed}
-use Rattle.types.proofs.Roots.{codes-root, every-type, every-list, root-name, root-array, root-tuple, parts-formed}
+use Rattle.types.proofs.Roots.{codes-root, every-type, root-name, root-array, root-tuple, parts-formed}
 use Rattle.trace.specs.Entry.{follow, span}
 
 -- the answers of `following`, by the kind

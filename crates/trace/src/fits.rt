@@ -1,7 +1,5 @@
 // "Here code is at most 24,576 bytes, slots and entries 256 each"; "over these sizes, has a packed flag above 1".
 ghost use mathlib.Core.Path.{_≡_};
-ghost use mathlib.Core.Bool.{_&&_};
-ghost use lib.Dec.{leb};
 ghost use Rattle.trace.specs.Fits.{headerFits, groupFits};
 use limits::input::TRACE_CODE_MAX;
 use limits::input::TRACE_ENTRIES_MAX;

@@ -1,7 +1,7 @@
 // The lines, each stored at the start of a slice; the answer is its length.
 ghost use mathlib.Core.Path.{_≡_};
 ghost use mathlib.Core.List.{_++_};
-ghost use Prim.Native.Nat.{_+_, _≤_, _<_, _^_};
+ghost use Prim.Native.Nat.{_+_, _≤_};
 ghost use lib.ListN.{length};
 ghost use lib.Seq.{sets};
 ghost use Rattle.trace.specs.Lines.{decimal, argsLine, refusedLine, lineRoom, Stored, EntryStored};

@@ -1,5 +1,4 @@
 // The lines of a list: the first line, and one for each entry, with its number from 0, one behind the other.
-ghost use mathlib.Core.Path.{_≡_};
 ghost use Prim.Native.Nat.{_+_, _≤_};
 ghost use lib.ListN.{length};
 ghost use Rattle.limits.specs.Limits.{codesMax};

@@ -1,13 +1,13 @@
 -- What stands ahead of a fact's words, line by line of the code. Assumes nothing.
-use Prim.Native.Nat.{ℕ, zero, suc, _+_, _-_, _*_, _/_, _^_, _≤_, _<_, max}
+use Prim.Native.Nat.{ℕ, suc, _+_, _-_, _*_, _^_, _≤_, _<_, max}
 use mathlib.Core.Path.{_≡_, refl, sym, ap, _∙_}
-use mathlib.Core.Bool.{Bool, true, false, cond, not, _&&_, _||_}
+use mathlib.Core.Bool.{Bool, true, false, not, _&&_, _||_}
 use mathlib.Core.List.{List, [], _∷_}
 use native.Mathlib.Omega.{arith}
 use native.Mathlib.Decide.{ℕ-discrete, decLe, decLt}
 use native.Mathlib.Numerals.{add-one}
 use lib.Dec.{eqb, leb}
-use lib.ListN.{length, getD, List·getD-eq-default}
+use lib.ListN.{getD, List·getD-eq-default}
 use mir.Val.{Fits}
 use mir.Syntax.{w32}
 use borrow.Author.Tests.{eq-eqb, ne-eqb, le-leb, lt-leb}
@@ -16,13 +16,13 @@ use Rattle.limits.specs.Limits.{wordBytes, kindDynamic, kindArray, dynamicCount
 use Rattle.facts.specs.Table.{kindOf, countOf, nameOf}
 use Rattle.facts.specs.Sound.{Sound}
 use Rattle.facts.specs.State.{Node, bare, nodeAt, nodes, nodeOf}
-use Rattle.facts.specs.Fact.{isFact}
+use Rattle.facts.specs.Fact.{isRecord}
 use Rattle.facts.proofs.Encode.{length-nodes, nodes-get}
 use Rattle.facts.proofs.States.{sound-formed}
 use Rattle.paths.proofs.Frame.{at}
 use Rattle.paths.proofs.Tail.{key-fits}
-use Rattle.list.specs.Seen.{childrenIn, isEmpty, isLonePlain, lastFrom, lastKey, lastWord}
-use Rattle.list.specs.Looks.{kindFrom, Looked}
+use Rattle.list.specs.Seen.{childrenIn, lastFrom, lastWord}
+use Rattle.list.specs.Looks.{Looked}
 use Rattle.list.specs.Types.{nameHolds, endKey}
 use Rattle.list.specs.declared.Children.{Children}
 use Rattle.list.proofs.ChildrenLaws.{empty-is, lone-is}
@@ -107,13 +107,13 @@ module _ (t : List ℕ) (u N r : ℕ) (S : Sound t u N) (r1 : 1 ≤ r) (ru : r �
   node-is : nodeOf (nodes t u) r ≡ nodeAt t r
   node-is = nodes-get t u r r1 ru
 
-  pub is-fact : isFact (nodeOf (nodes t u) r) ≡ true
-  is-fact = sound-formed t u N S .fact r r1 (let e = length-nodes t u in omega arith)
+  pub is-record : isRecord (nodeOf (nodes t u) r) ≡ true
+  is-record = sound-formed t u N S .fact r r1 (let e = length-nodes t u in omega arith)
 
   pub last-most : ((i : ℕ) → Fits w32 (getD t i 0)) → lastWord (nodes t u) r ≤ dynamicCountMax
   unfolding lastWord
   last-most h =
-      let c = count-most (nodeOf (nodes t u) r) is-fact in
+      let c = count-most (nodeOf (nodes t u) r) is-record in
       let k = last-small (nodes t u) 0 (childrenIn (nodes t u) r) (λ q. key-small t u q h) (omega arith) in
       omega arith
 

@@ -1,18 +1,17 @@
 -- How large the codes ahead are. Assumes nothing.
-use Prim.Native.Nat.{ℕ, zero, suc, _+_, _≤_, _<_}
-use mathlib.Core.Path.{_≡_, refl, sym, ap, _∙_}
+use Prim.Native.Nat.{ℕ, zero, suc, _+_, _≤_}
+use mathlib.Core.Path.{_≡_, refl}
 use mathlib.Core.Bool.{Bool, true, false, cond, _&&_, _||_}
 use mathlib.Core.List.{List}
 use native.Mathlib.Omega.{arith}
 use lib.Dec.{eqb, leb}
-use lib.ListN.{length}
 use borrow.Author.Tests.{eqb-true, ne-eqb, eq-eqb}
 use Rattle.limits.specs.Codes as code
 use Rattle.limits.specs.Limits.{wordBytes, kindDynamic, kindArray}
 use Rattle.names.specs.Elementary.{isName}
 use Rattle.names.proofs.Codes.{name-small}
 use Rattle.facts.specs.State.{Node, nodeOf}
-use Rattle.facts.specs.Fact.{isFact}
+use Rattle.facts.specs.Fact.{isRecord}
 use Rattle.facts.proofs.Whole.{fact-parts}
 use Rattle.list.specs.Seen.{childrenIn, isEmpty, isLonePlain, lastWord}
 use Rattle.list.specs.Types.{nameHolds, endKey}
@@ -39,7 +38,7 @@ tuple-bound n = go (leb 2 n)
     go true = omega arith
     go false = omega arith
 
-pub name-bound : (n : Node) → isFact n ≡ true → n .name ≤ 3032
+pub name-bound : (n : Node) → isRecord n ≡ true → n .name ≤ 3032
 name-bound n h = go (eqb (n .name) code.noName) refl (fact-parts n h .sixth)
   where
     go : (b : Bool) → eqb (n .name) code.noName ≡ b → b || isName (n .name) ≡ true → n .name ≤ 3032
@@ -55,7 +54,7 @@ module _ (s : List Node) where
       (either (eqb kind kindDynamic && eqb end wordBytes && lone) _ _ (small code.array 0 1 1 (omega arith) (omega arith) (omega arith))
       (small (tupleCode (suc last)) 0 0 (suc last) (tuple-bound (suc last)) (omega arith) (omega arith))))
 
-  bounded-plan : (r : ℕ) → isFact (nodeOf s r) ≡ true → Bounded (planOf s r)
+  bounded-plan : (r : ℕ) → isRecord (nodeOf s r) ≡ true → Bounded (planOf s r)
   unfolding planOf kindPlan
   bounded-plan r F =
       let n = name-bound (nodeOf s r) F in
@@ -63,7 +62,7 @@ module _ (s : List Node) where
       (either (eqb (nodeOf s r .kind) kindArray) _ _ (small code.array (tupleCode (lastWord s r)) 1 (lastWord s r) (omega arith) (tuple-bound (lastWord s r)) (omega arith))
       (bounded-open (nodeOf s r .kind) (isEmpty (childrenIn s r)) (isLonePlain s (childrenIn s r)) (endKey s r) (lastWord s r)))
 
-  pub bounded-word : (c : ℕ) → ((c ≡ 0 → ⊥) → isFact (nodeOf s c) ≡ true) → Bounded (wordPlan s c)
+  pub bounded-word : (c : ℕ) → ((c ≡ 0 → ⊥) → isRecord (nodeOf s c) ≡ true) → Bounded (wordPlan s c)
   unfolding wordPlan
   bounded-word zero F = small wordCode 0 0 0 (omega arith) (omega arith) (omega arith)
   bounded-word (suc c) F = rw (ne-eqb (suc c) 0 (λ z. omega arith)) (bounded-plan (suc c) (F (λ z. omega arith)))

@@ -14,7 +14,7 @@ use Rattle.types.specs.Codes.{codes, allCodes}
 use Rattle.facts.specs.Table.{childOf, kindOf, nameOf}
 use Rattle.facts.specs.Sound.{Sound}
 use Rattle.facts.specs.State.{Node, nodeAt, nodes, nodeOf, kidsIn}
-use Rattle.facts.specs.Fact.{isFact}
+use Rattle.facts.specs.Fact.{isRecord}
 use Rattle.facts.proofs.Encode.{length-nodes, nodes-get, kids-nodes}
 use Rattle.facts.proofs.States.{sound-formed}
 use Rattle.facts.proofs.Whole.{fact-parts}
@@ -37,7 +37,7 @@ not-false true e = refl
 not-false false e = sym e
 
 -- "Count is 1 to 99 for an array, at most 134,217,727 for dynamic, else 0."
-count-none : (n : Node) → isFact n ≡ true → n .kind ≡ 0 → n .count ≡ 0
+count-none : (n : Node) → isRecord n ≡ true → n .kind ≡ 0 → n .count ≡ 0
 count-none n h e = eqb-true (n .count) 0 (rw e at (fact-parts n h .fifth))
 
 -- the name of such a fact is its type
@@ -68,7 +68,7 @@ module _ (t : List ℕ) (u N c : ℕ) (S : Sound t u N) (c1 : 1 ≤ c) (cu : c �
   long : c ≤ length (nodes t u)
   long = let l = length-nodes t u in omega arith
 
-  fact-is : isFact (nodeOf (nodes t u) c) ≡ true
+  fact-is : isRecord (nodeOf (nodes t u) c) ≡ true
   fact-is = sound-formed t u N S .fact c c1 long
 
   shaped : Shaped t u N

@@ -1,5 +1,5 @@
 -- What is written for a fact is its type's codes: `codes-plan`, `codes-word`. Assumes nothing.
-use Prim.Native.Nat.{ℕ, zero, suc, _+_, _-_, _*_, _/_, _≤_, _<_, max}
+use Prim.Native.Nat.{ℕ, zero, suc, _+_, _-_, _*_, _/_, _≤_, max}
 use mathlib.Core.Path.{_≡_, refl, sym, ap, _∙_}
 use mathlib.Core.Bool.{Bool, true, false, false≢true, cond, not, _&&_, _||_, and-eq-true-iff}
 use mathlib.Core.List.{List, [], _∷_, _++_, append-nil}
@@ -9,12 +9,12 @@ use lib.ListN.{length}
 use borrow.Author.Tests.{eqb-true, eq-eqb, ne-eqb, le-leb, leb-true}
 use Rattle.limits.specs.Codes as code
 use Rattle.limits.specs.Limits.{wordBytes, kindDynamic, kindArray, arrayCountMax, dynamicCountMax}
-use Rattle.names.specs.Elementary.{bytes, codeOf, ofCode, isName}
+use Rattle.names.specs.Elementary.{bytes, codeOf, isName}
 use Rattle.names.proofs.Codes.{name-is-code, name-some}
-use Rattle.types.specs.Tree.{AbiType, AbiTypes, elementary, array, tuple, nil, cons, count}
+use Rattle.types.specs.Tree.{AbiType, AbiTypes, elementary, array, tuple, count}
 use Rattle.types.specs.Codes.{codes, allCodes}
 use Rattle.facts.specs.State.{Node, nodeOf}
-use Rattle.facts.specs.Fact.{isFact, isCount}
+use Rattle.facts.specs.Fact.{isRecord, isCount}
 use Rattle.facts.proofs.Whole.{fact-parts}
 use Rattle.paths.specs.Find.{findIn}
 use Rattle.paths.specs.Order.{Ordered}
@@ -108,13 +108,13 @@ module _ (s : List Node) (r : ℕ) where
           rw l spelt-open
 
 -- what question 2 says of a fact's count and name
-array-some : (n : Node) → isFact n ≡ true → n .kind ≡ kindArray → 1 ≤ n .count
+array-some : (n : Node) → isRecord n ≡ true → n .kind ≡ kindArray → 1 ≤ n .count
 array-some n h e = go (fact-parts n h .fifth)
   where
     go : isCount n ≡ true → 1 ≤ n .count
     go q = leb-true 1 (n .count) (and-eq-true-iff (leb 1 (n .count)) (leb (n .count) arrayCountMax) .0 (rw (eq-eqb (n .kind) kindArray e) at q) .0)
 
-pub count-most : (n : Node) → isFact n ≡ true → n .count ≤ dynamicCountMax
+pub count-most : (n : Node) → isRecord n ≡ true → n .count ≤ dynamicCountMax
 count-most n h = go (eqb (n .kind) kindArray) (eqb (n .kind) kindDynamic) (fact-parts n h .fifth)
   where
     go : (a b : Bool) → cond a (leb 1 (n .count) && leb (n .count) arrayCountMax) (cond b (leb (n .count) dynamicCountMax) (eqb (n .count) 0)) ≡ true
@@ -124,7 +124,7 @@ count-most n h = go (eqb (n .kind) kindArray) (eqb (n .kind) kindDynamic) (fact-
     go false false q = let z = eqb-true (n .count) 0 q in omega arith
 
 -- a name that holds is one
-holds-name : (n : Node) (b : Bool) → isFact n ≡ true → nameHolds n b ≡ true → isName (n .name) ≡ true
+holds-name : (n : Node) (b : Bool) → isRecord n ≡ true → nameHolds n b ≡ true → isName (n .name) ≡ true
 unfolding nameHolds
 holds-name n b h q = go (eqb (n .name) code.noName) refl (fact-parts n h .sixth)
   where
@@ -136,7 +136,7 @@ holds-name n b h q = go (eqb (n .name) code.noName) refl (fact-parts n h .sixth)
     go false y w = w
     go true y w = absurd (unnamed (eqb-true (n .name) code.noName y) q)
 
-module _ (s : List Node) (O : Ordered s) (r : ℕ) (r1 : 1 ≤ r) (rn : r ≤ length s) (F : isFact (nodeOf s r) ≡ true) where
+module _ (s : List Node) (O : Ordered s) (r : ℕ) (r1 : 1 ≤ r) (rn : r ≤ length s) (F : isRecord (nodeOf s r) ≡ true) where
   array-word : nodeOf s r .kind ≡ kindArray → 1 ≤ lastWord s r
   unfolding lastWord
   array-word e = let c = array-some (nodeOf s r) F e in omega arith
@@ -152,7 +152,7 @@ module _ (s : List Node) (O : Ordered s) (r : ℕ) (r1 : 1 ≤ r) (rn : r ≤ le
       (λ _. spelt-kind s r array-word)
 
 -- the codes of a word
-pub codes-word : (s : List Node) (O : Ordered s) (r w c : ℕ) → 1 ≤ r → ((q : ℕ) → 1 ≤ q → q ≤ length s → isFact (nodeOf s q) ≡ true) → c ≡ wordChild s r w
+pub codes-word : (s : List Node) (O : Ordered s) (r w c : ℕ) → 1 ≤ r → ((q : ℕ) → 1 ≤ q → q ≤ length s → isRecord (nodeOf s q) ≡ true) → c ≡ wordChild s r w
     → codes (cond (hasWord s r w) (typeOf s (findIn s r (wordBytes * w))) uint256) ≡ leads (wordPlan s c) ++ allCodes (wordTypes s c (wordPlan s c .start) (wordPlan s c .words))
 unfolding wordChild wordPlan codes codeOf allCodes wordsWith
 codes-word s O r w c r1 F e = rw e (go (hasWord s r w) refl)

@@ -9,7 +9,6 @@ use native.Mathlib.Decide.{ℕ-discrete}
 use lib.ListN.{length, set, length-append}
 use lib.Seq.{sets, length-sets}
 use borrow.Author.Tests.{eq-eqb, ne-eqb}
-use Rattle.limits.specs.Codes as code
 use Rattle.limits.specs.Limits.{wordBytes, codesMax}
 use Rattle.spell.proofs.Stores.{sets-append, sets-both}
 use Rattle.names.specs.Elementary.{codeOf}
@@ -19,7 +18,7 @@ use Rattle.facts.specs.Table.{keyOf, parentOf, childOf, nextOf, seenOf}
 use Rattle.facts.specs.Links.{Linked}
 use Rattle.facts.specs.Sound.{Sound}
 use Rattle.facts.specs.State.{Node, nodes, nodeOf}
-use Rattle.facts.specs.Fact.{isFact}
+use Rattle.facts.specs.Fact.{isRecord}
 use Rattle.facts.proofs.Encode.{length-nodes, nodes-get}
 use Rattle.facts.proofs.States.{sound-formed}
 use Rattle.paths.specs.Find.{findIn}
@@ -223,7 +222,7 @@ module _ (t : List ℕ) (u r start words : ℕ) (types₀ : List ℕ) (at : ℕ)
     }
 
 module _ (t : List ℕ) (u N r start words : ℕ) (S : Sound t u N) (r1 : 1 ≤ r) (ru : r ≤ u) (types₀ : List ℕ) (at : ℕ) where
-  fact-of : (c : ℕ) → (c ≡ 0 → ⊥) → c ≤ u → isFact (nodeOf (nodes t u) c) ≡ true
+  fact-of : (c : ℕ) → (c ≡ 0 → ⊥) → c ≤ u → isRecord (nodeOf (nodes t u) c) ≡ true
   fact-of c n h = sound-formed t u N S .fact c (omega (arith, n)) (let e = length-nodes t u in omega arith)
 
   ordered : Ordered (nodes t u)

@@ -1,9 +1,9 @@
 -- Lists of codes joined and split, as the codes of lists of types. Assumes nothing.
 use mathlib.Core.Path.{_≡_, refl, sym, ap, _∙_}
 use mathlib.Core.Bool.{true}
-use mathlib.Core.List.{List, [], _++_, append-assoc, nil≢cons}
+use mathlib.Core.List.{List, _++_, append-assoc, nil≢cons}
 use Prim.Native.Nat.{ℕ}
-use Rattle.types.specs.Tree.{AbiType, AbiTypes, nil, cons, append, allWellFormed}
+use Rattle.types.specs.Tree.{AbiTypes, nil, cons, append, allWellFormed}
 use Rattle.types.specs.Codes.{codes, allCodes, Spells}
 use Rattle.types.proofs.Append.{codes-append, formed-both}
 use Rattle.types.proofs.Formed.{head-formed, tail-formed}

@@ -2,7 +2,7 @@
 -- on to the core at their own lifetimes, shares and ghost names, for good; the head that the core returns is stored in the cell, and the borrow is closed
 -- at it. Of the core the proof knows only that it meets its contract. What the core says of the slices' last lists is what the contract says of them
 -- (`Left.antt`): it is never taken apart. Assumes nothing.
-use mathlib.Core.Path.{_≡_, refl, ap, subst}
+use mathlib.Core.Path.{refl, ap, subst}
 use Prim.Native.Nat.{ℕ}
 use mathlib.Core.List.{[], _∷_, List}
 use lib.ListN.{length}

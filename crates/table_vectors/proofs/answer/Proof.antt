@@ -4,11 +4,6 @@ use borrow.Author.Needs.{needs}
 use Rattle.facts.proofs.Counts.{count-counted}
 use Rattle.table_vectors.proofs.answer.Statement.{statement}
 use Rattle.table_vectors.proofs.answer.Tie as tie
-use Rattle.table_vectors.proofs.answer.Reads as reads
-use Rattle.table_vectors.proofs.answer.Lts as lts
-use Rattle.facts.proofs.record_count.Reads as record-count-reads
-use Rattle.facts.proofs.is_sound.Reads as is-sound-reads
-use Rattle.vectors.proofs.put.Reads as put-reads
 
 record-count-requires : tie.Need-record-count-requires
 record-count-requires c κs = search needs

@@ -1,6 +1,5 @@
 -- `closing::arrive::judge` meets its contract. Assumes nothing.
 use denote.Ref.{now}
-use native.Mathlib.Omega.{arith}
 use Rattle.paths.proofs.Frame.{sound-shaped}
 use Rattle.closing.proofs.JudgeLaws.{long-code, short-types, no-room, room-left, sound-filled, answered}
 use borrow.Author.Needs.{needs}

@@ -1,7 +1,6 @@
 -- `closing::words::dynamic_args` meets its contract. Assumes nothing.
 use native.Mathlib.Omega.{arith}
 use mathlib.Core.Logic.{⊎-elim}
-use mathlib.Core.Path.{_∙_}
 use Rattle.facts.specs.Table.{keyOf}
 use Rattle.paths.proofs.Walk.{left as keys-left}
 use Rattle.paths.proofs.Tail.{has-field, key-fits, next-less, tail-kid}

@@ -7,8 +7,6 @@ use borrow.Author.Needs.{needs}
 use Rattle.code.proofs.Digits.{Read, read-none, shifted-fits, added-fits, read-more, read-all}
 use Rattle.code.proofs.bytes.number_at.Statement.{statement}
 use Rattle.code.proofs.bytes.number_at.Tie as tie
-use Rattle.code.proofs.bytes.number_at.Reads as reads
-use Rattle.code.proofs.bytes.number_at.Lts as lts
 
 abbrev Inv-loop : tie.InvT-loop
 Inv-loop code at n number₀ i₀ number i = Read code at n number i

@@ -6,8 +6,6 @@ use lib.ListN.{length}
 use Rattle.code.proofs.Prefix.{Passed, short, differs, agrees, whole}
 use Rattle.code.proofs.revert.begins_with.Statement.{statement}
 use Rattle.code.proofs.revert.begins_with.Tie as tie
-use Rattle.code.proofs.revert.begins_with.Reads as reads
-use Rattle.code.proofs.revert.begins_with.Lts as lts
 
 abbrev Inv-loop : tie.InvT-loop
 Inv-loop part s i₀ i = Passed part s i

@@ -11,7 +11,7 @@ use Rattle.limits.specs.Fields as fields
 use Rattle.facts.specs.Table.{keyOf, seenOf, Has}
 use Rattle.facts.specs.Links.{Kid, Chained}
 use Rattle.facts.specs.State.{nodeAt}
-use Rattle.facts.specs.Fact.{isFact, AreRecords}
+use Rattle.facts.specs.Fact.{isRecord, AreRecords}
 use Rattle.facts.proofs.Chains.{chained-linked}
 use Rattle.facts.proofs.Whole.{under-seen-le}
 use Rattle.facts.proofs.Check.{Outer, Inner, start, enter, ask, step, leave, bound, finish, few}
@@ -100,7 +100,7 @@ has c f l =
     record { from = let z = turn c .loop2-test .taken in omega arith; within = let w = st (turn c) .pre .1 .0 in omega arith; one = l }
 
 -- what sound records have, the one met has
-tested : (c : Else1) → let i = turn c in AreRecords (T i) (U i) → (isFact (nodeAt (T i) (C i)) ≡ true) × (seenOf (T i) (C i) ≤ seenOf (T i) (P i))
+tested : (c : Else1) → let i = turn c in AreRecords (T i) (U i) → (isRecord (nodeAt (T i) (C i)) ≡ true) × (seenOf (T i) (C i) ≤ seenOf (T i) (P i))
 tested c A =
     let i = turn c in
     let K = kid c in
@@ -110,8 +110,8 @@ tested c A =
     (f, rw (K .parent) at (under-seen-le (T i) (C i) f (A .under-seen (C i) (omega arith) (K .used))))
 
 -- and has passed its own tests
-fact : (c : Else4) → let i = turn (first (second (third c))) in isFact (nodeAt (T i) (C i)) ≡ true
-fact c = let r = c .before .is-fact in sym (r .ensures) ∙ not-false (r .result) (c .if4 .left)
+fact : (c : Else4) → let i = turn (first (second (third c))) in isRecord (nodeAt (T i) (C i)) ≡ true
+fact c = let r = c .before .is-record in sym (r .ensures) ∙ not-false (r .result) (c .if4 .left)
 
 loop-holds : tie.Need-loop-holds Inv-loop2 μ-loop2 Inv-loop μ-loop
 loop-holds c = start _ _ (c .before .pre .0 .0)
@@ -163,12 +163,12 @@ returns-3 c S =
     let f = c .before .field5 .ensures in
     omega arith
 
-is-fact-requires : tie.Need-is-fact-requires Inv-loop2 μ-loop2 Inv-loop μ-loop
-is-fact-requires c κs = let h = has (first (second c)) fields.seen (omega arith) in record { from = h .from; within = h .within }
+is-record-requires : tie.Need-is-record-requires Inv-loop2 μ-loop2 Inv-loop μ-loop
+is-record-requires c κs = let h = has (first (second c)) fields.seen (omega arith) in record { from = h .from; within = h .within }
 
 returns-4 : tie.Need-returns-4 Inv-loop2 μ-loop2 Inv-loop μ-loop
 returns-4 c S =
-    let r = c .before .is-fact in
+    let r = c .before .is-record in
     true≢false (sym (tested (first (second (c .before .before))) (S .1) .0) ∙ sym (r .ensures) ∙ not-true (r .result) (c .if4 .taken))
 
 add-low : tie.Need-add-low Inv-loop2 μ-loop2 Inv-loop μ-loop
@@ -245,7 +245,7 @@ are-chained-records-spec =
     returns-2
     field-requires-5
     returns-3
-    is-fact-requires
+    is-record-requires
     returns-4
     add-low
     add-met

@@ -1,7 +1,5 @@
 -- `kinds::filling::look_after` meets its contract. Assumes nothing.
-use mathlib.Core.Path.{sym, _∙_}
 use native.Mathlib.Omega.{arith}
-use borrow.Author.Needs.{needs}
 use Rattle.paths.proofs.Finds.{missing-none, missing-some}
 use Rattle.kinds.proofs.ChainLaws.{before-up, found-before}
 use Rattle.kinds.proofs.filling.look_after.Statement.{statement}

@@ -1,11 +1,11 @@
 -- `labels::check::are_entries`: the entries passed are well formed. Assumes nothing.
-use lib.ListN.{length, getD}
+use lib.ListN.{length}
 use mathlib.Core.Path.{sym, _∙_}
-use Prim.Native.Nat.{ℕ, _+_, _-_, _*_, _/_}
+use Prim.Native.Nat.{ℕ, _-_, _*_, _/_}
 use borrow.Author.Tests.{not-true, not-false}
 use borrow.Author.Needs.{needs}
-use Rattle.limits.specs.Layout.{slotWidth, slotLabel, entryWidth}
-use Rattle.labels.specs.Formed.{isLabel, isEntry}
+use Rattle.limits.specs.Layout.{entryWidth}
+use Rattle.labels.specs.Formed.{isEntry}
 use Rattle.labels.proofs.Tests.{Passed, passed-none, passed-more, stopped, all-passed}
 use Rattle.labels.proofs.check.are_entries.Statement.{statement}
 use Rattle.labels.proofs.check.are_entries.Tie as tie

@@ -1,7 +1,7 @@
 -- `labels::check::are_zero`: the numbers passed are zero. Assumes nothing.
-use lib.ListN.{length, getD}
+use lib.ListN.{getD}
 use lib.Dec.{eqb}
-use Prim.Native.Nat.{ℕ, _+_, _-_, _*_, _/_}
+use Prim.Native.Nat.{ℕ, _+_, _-_}
 use borrow.Author.Needs.{needs}
 use borrow.Author.Tests.{eq-eqb, ne-eqb}
 use Rattle.labels.proofs.Tests.{Passed, passed-none, passed-more, stopped, all-passed}

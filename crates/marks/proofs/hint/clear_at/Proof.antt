@@ -1,5 +1,5 @@
 -- `marks::hint::clear_at` meets its contract: whichever store was made, the record is blocked as the definition says. Assumes nothing.
-use mathlib.Core.Path.{_≡_, sym, _∙_}
+use mathlib.Core.Path.{sym, _∙_}
 use mathlib.Core.Logic.{⊎-elim}
 use denote.Ref.{now}
 use borrow.Author.Needs.{needs}

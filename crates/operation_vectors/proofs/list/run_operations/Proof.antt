@@ -1,7 +1,5 @@
 -- `operation_vectors::list::run_operations` keeps the table's shape from one operation to the next. Assumes nothing.
 use Prim.Native.Nat.{_-_}
-use native.Mathlib.Omega.{arith}
-use mathlib.Core.Path.{sym, _∙_}
 use borrow.Author.Needs.{needs}
 use Rattle.paths.specs.Shape.{Shaped}
 use Rattle.operation_vectors.proofs.list.run_operations.Statement.{statement}

@@ -1,6 +1,5 @@
 -- `operation_vectors::report::put_record` reads the fields of one record. Assumes nothing.
 use Prim.Native.Nat.{_-_, _≤_}
-use native.Mathlib.Omega.{arith}
 use borrow.Author.Needs.{needs}
 use Rattle.limits.specs.Limits.{recordWidth}
 use Rattle.operation_vectors.proofs.report.put_record.Statement.{statement}

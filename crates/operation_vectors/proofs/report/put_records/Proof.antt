@@ -1,6 +1,5 @@
 -- `operation_vectors::report::put_records` reads the used records. Assumes nothing.
 use Prim.Native.Nat.{_+_, _-_, _≤_}
-use native.Mathlib.Omega.{arith}
 use borrow.Author.Needs.{needs}
 use Rattle.operation_vectors.proofs.report.put_records.Statement.{statement}
 use Rattle.operation_vectors.proofs.report.put_records.Tie as tie

@@ -5,9 +5,6 @@ use mathlib.Core.Path.{_≡_}
 use lib.ListN.{length}
 use Rattle.table_vectors.proofs.vector.read_table.Statement.{statement}
 use Rattle.table_vectors.proofs.vector.read_table.Tie as tie
-use Rattle.table_vectors.proofs.vector.read_table.Reads as reads
-use Rattle.table_vectors.proofs.vector.read_table.Lts as lts
-use Rattle.table_vectors.proofs.vector.number_at.Reads as number-at-reads
 
 abbrev Inv-loop : tie.InvT-loop
 Inv-loop v table₀ i₀ table i = length table ≡ length table₀

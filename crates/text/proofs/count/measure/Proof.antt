@@ -8,8 +8,6 @@ use Rattle.text.proofs.Lengths.{Counting, counting-none, counting-short
 use Rattle.text.proofs.Counts.{few-wanted, short-text, count-stop, count-again}
 use Rattle.text.proofs.count.measure.Statement.{statement}
 use Rattle.text.proofs.count.measure.Tie as tie
-use Rattle.text.proofs.count.measure.Reads as reads
-use Rattle.text.proofs.count.measure.Lts as lts
 
 abbrev Inv-loop : tie.InvT-loop
 Inv-loop codes t₀ i₀ t i = Counting codes (t .wanted) (t .length) i

@@ -4,9 +4,6 @@ use borrow.Author.Needs.{needs}
 use Rattle.text.proofs.Stacks.{Turn, turn-none, turn-low, turn-size, turn-wide, turn-inside, turn-stop, turn-room, turn-again, turn-end}
 use Rattle.text.proofs.write.close.Statement.{statement}
 use Rattle.text.proofs.write.close.Tie as tie
-use Rattle.text.proofs.write.close.Reads as reads
-use Rattle.text.proofs.write.close.Lts as lts
-use Rattle.text.proofs.write.put_closer.Reads as put-closer-reads
 
 abbrev Inv-loop : tie.InvT-loop
 Inv-loop held₀ depth out₀ to d₀ at₀ held out d at = Turn held₀ out₀ to depth held out d at

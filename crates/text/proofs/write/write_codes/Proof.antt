@@ -6,9 +6,6 @@ use lib.ListN.{length}
 use Rattle.text.proofs.Writings.{Writing, writing-none, writing-deep, writing-room, writing-more, writing-size, writing-wide, writing-end}
 use Rattle.text.proofs.write.write_codes.Statement.{statement}
 use Rattle.text.proofs.write.write_codes.Tie as tie
-use Rattle.text.proofs.write.write_codes.Reads as reads
-use Rattle.text.proofs.write.write_codes.Lts as lts
-use Rattle.text.proofs.write.write_code.Reads as write-code-reads
 
 abbrev Inv-loop : tie.InvT-loop
 Inv-loop codes held₀ out₀ p₀ i₀ held out p i = Writing codes out₀ held₀ held out (p .depth) (p .to) i

@@ -5,9 +5,6 @@ use mathlib.Core.Path.{_≡_}
 use lib.ListN.{length}
 use Rattle.text_vectors.proofs.report.fill.Statement.{statement}
 use Rattle.text_vectors.proofs.report.fill.Tie as tie
-use Rattle.text_vectors.proofs.report.fill.Reads as reads
-use Rattle.text_vectors.proofs.report.fill.Lts as lts
-use Rattle.text_vectors.proofs.report.filling.Reads as filling-reads
 
 abbrev Inv-loop : tie.InvT-loop
 Inv-loop out₀ i₀ out i = length out ≡ length out₀

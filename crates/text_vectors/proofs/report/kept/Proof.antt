@@ -4,9 +4,6 @@ use Prim.Native.Nat.{_-_}
 use lib.ListN.{length}
 use Rattle.text_vectors.proofs.report.kept.Statement.{statement}
 use Rattle.text_vectors.proofs.report.kept.Tie as tie
-use Rattle.text_vectors.proofs.report.kept.Reads as reads
-use Rattle.text_vectors.proofs.report.kept.Lts as lts
-use Rattle.text_vectors.proofs.report.filling.Reads as filling-reads
 
 abbrev Inv-loop : tie.InvT-loop
 Inv-loop out from i₀ i = Unit {0}

@@ -5,8 +5,6 @@ use native.Mathlib.Omega.{arith}
 use lib.ListN.{length}
 use Rattle.text_vectors.proofs.report.sum.Statement.{statement}
 use Rattle.text_vectors.proofs.report.sum.Tie as tie
-use Rattle.text_vectors.proofs.report.sum.Reads as reads
-use Rattle.text_vectors.proofs.report.sum.Lts as lts
 
 abbrev Inv-loop : tie.InvT-loop
 Inv-loop out s₀ i₀ s i = (i ≤ length out) × (s < 1000000007)

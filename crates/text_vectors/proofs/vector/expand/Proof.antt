@@ -5,11 +5,6 @@ use mathlib.Core.Path.{_≡_}
 use lib.ListN.{length}
 use Rattle.text_vectors.proofs.vector.expand.Statement.{statement}
 use Rattle.text_vectors.proofs.vector.expand.Tie as tie
-use Rattle.text_vectors.proofs.vector.expand.Reads as reads
-use Rattle.text_vectors.proofs.vector.expand.Lts as lts
-use Rattle.text_vectors.proofs.vector.pair.Reads as pair-reads
-use Rattle.text_vectors.proofs.vector.put_runs.Reads as put-runs-reads
-use Rattle.text_vectors.proofs.vector.runs.Reads as runs-reads
 
 abbrev Inv-loop : tie.InvT-loop
 Inv-loop v codes₀ block left₀ at₀ codes left at = (length codes ≡ length codes₀) × (at ≤ 65536) × (block ≤ 36)

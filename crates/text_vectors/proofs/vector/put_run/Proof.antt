@@ -5,8 +5,6 @@ use mathlib.Core.Path.{_≡_}
 use lib.ListN.{length}
 use Rattle.text_vectors.proofs.vector.put_run.Statement.{statement}
 use Rattle.text_vectors.proofs.vector.put_run.Tie as tie
-use Rattle.text_vectors.proofs.vector.put_run.Reads as reads
-use Rattle.text_vectors.proofs.vector.put_run.Lts as lts
 
 abbrev Inv-loop : tie.InvT-loop
 Inv-loop codes₀ at n code i₀ left₀ codes i left = (length codes ≡ length codes₀) × (i ≤ 65536)

@@ -5,10 +5,6 @@ use mathlib.Core.Path.{_≡_}
 use lib.ListN.{length}
 use Rattle.text_vectors.proofs.vector.put_runs.Statement.{statement}
 use Rattle.text_vectors.proofs.vector.put_runs.Tie as tie
-use Rattle.text_vectors.proofs.vector.put_runs.Reads as reads
-use Rattle.text_vectors.proofs.vector.put_runs.Lts as lts
-use Rattle.text_vectors.proofs.vector.pair.Reads as pair-reads
-use Rattle.text_vectors.proofs.vector.put_run.Reads as put-run-reads
 
 abbrev Inv-loop : tie.InvT-loop
 Inv-loop v codes₀ from to start at₀ i₀ codes at i = (length codes ≡ length codes₀) × (at ≤ 65536)

@@ -1,11 +1,11 @@
--- `facts::fact::is_fact` meets its contract. Assumes nothing.
+-- `facts::fact::is_record` meets its contract. Assumes nothing.
 use borrow.Author.Needs.{needs}
 use Rattle.facts.proofs.Tests.{fact-flags, fact-unseen, fact-count, fact-named}
-use Rattle.facts.proofs.fact.is_fact.Statement.{statement}
-use Rattle.facts.proofs.fact.is_fact.Tie as tie
+use Rattle.facts.proofs.fact.is_record.Statement.{statement}
+use Rattle.facts.proofs.fact.is_record.Tie as tie
 
-pub is-fact-spec : {M : Type 1} → statement M
-is-fact-spec =
+pub is-record-spec : {M : Type 1} → statement M
+is-record-spec =
     tie.close
     (tie.spec
     (λ c κs. search needs)
