@@ -89,15 +89,6 @@ fn left_with_children(table: &[u32], n: u32, used: u32, r: u32, depth: u32, left
     (rest - last) as u64
 }
 
-// The walk at a record and below it.
-pub fn fits_below(table: &[u32], n: u32, used: u32, r: u32, depth: u32, left: u32) -> Budget
-    requires { ⌜ Shaped (now table) used n ⌝ }
-    requires { ⌜ (1 ≤ r) × (r ≤ used) × (depth ≤ depthMax + 1) ⌝ }
-    ensures { λ b. ⌜ b ≡ budgetBelow (nodes (now (table .entry)) used) r depth left ⌝ }
-{
-    answer(left_below(table, n, used, r, depth, left))
-}
-
 // "`fits_type_budget` starts at depth 0 with 8,192." The root is seen.
 pub fn fits_type_budget(table: &[u32], n: u32, used: u32) -> Budget
     requires { ⌜ Sound (now table) used n ⌝ }
