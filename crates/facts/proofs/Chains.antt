@@ -101,7 +101,7 @@ module _ (t : List ℕ) (u : ℕ) (S : Chained t u) where
   }
 
 -- a number of the list is at most the largest
-top : List ℕ → ℕ
+pub top : List ℕ → ℕ
 top [] = 0
 top (x ∷ xs) = max x (top xs)
 
@@ -111,7 +111,7 @@ top-le [] i = omega arith
 top-le (x ∷ xs) zero = omega arith
 top-le (x ∷ xs) (suc i) = let h = top-le xs i in omega arith
 
-key-le : (t : List ℕ) (r : ℕ) → keyOf t r ≤ top t
+pub key-le : (t : List ℕ) (r : ℕ) → keyOf t r ≤ top t
 unfolding fld
 key-le t r = top-le t ((r - 1) * recordWidth + field.key)
 

@@ -1,223 +1,376 @@
--- The pass over all records and their chains, and what it shows. Assumes nothing.
-use Prim.Native.Nat.{ℕ, _+_, _-_, _*_, _≤_, _<_}
-use mathlib.Core.Path.{_≡_, refl, sym, _∙_}
-use mathlib.Core.Bool.{true}
+-- The pass over all records: what it adds up, and what equal weights show. Assumes nothing.
+use Prim.Native.Nat.{ℕ, zero, suc, _+_, _-_, _*_, _^_, _≤_, _<_}
+use mathlib.Core.Path.{_≡_, refl, sym, ap, _∙_, subst}
+use mathlib.Core.Bool.{Bool, true, false}
 use mathlib.Core.Logic.{_⊎_, inl, inr, ⊎-elim}
 use mathlib.Core.List.{List, [], _∷_, _++_}
 use native.Mathlib.Omega.{arith}
 use native.Mathlib.Nat.{eq-or-lt-of-le}
+use native.Mathlib.Decide.{ℕ-discrete}
+use lib.Dec.{eqb}
 use lib.ListN.{length}
+use borrow.Author.Tests.{eqb-true, eqb-false}
 use Rattle.facts.proofs.Laws.{lt-or-ge}
-use Rattle.facts.proofs.Distinct.{NoDup, all-in, at-most, at-least}
-use Rattle.facts.proofs.Whole.{is-root, root-fact, le-under-seen}
-use Rattle.limits.specs.Limits.{recordWidth}
+use Rattle.facts.proofs.Distinct.{NoDup, total, Split, split, span, length-span, span-in, in-span, all-in, at-least}
+use Rattle.facts.proofs.Chains.{top, key-le, seg-in, in-seg, rising-once, chained-linked}
+use Rattle.facts.proofs.Whole.{is-root, root-fact, le-under-seen, under-seen-le}
+use Rattle.facts.proofs.Weights.{weight-is, link-none, link-some}
+use Rattle.limits.specs.Limits.{recordWidth, recordsMax}
 use Rattle.facts.specs.Table.{keyOf, parentOf, childOf, nextOf, seenOf}
 use Rattle.facts.specs.State.{nodeAt}
-use Rattle.facts.specs.Links.{Kid, First, Linked, In, Seg, Rising, ChainOf, Chained}
-use Rattle.facts.specs.Fact.{isRecord, isRoot, AreRecords}
+use Rattle.facts.specs.Links.{Kid, Linked, In, Seg, Rising, ChainOf, Chained}
+use Rattle.facts.specs.Fact.{isRecord, isUnderSeen, isRoot, AreRecords}
+use Rattle.facts.specs.Sound.{Tells}
+use Rattle.facts.specs.Weights.{linkWeight, weightEnd, weight, linkTo, ChildFits, NextFits, Under}
 
--- r comes before the key b of the chain of p
-pub record Before (t : List ℕ) (p b r : ℕ) : Type 0 where
-  pub parent : parentOf t r ≤ p
-  pub key : parentOf t r ≡ p → keyOf t r < b
+-- what the link to the one behind r weighs
+abbrev pub onward : List ℕ → ℕ → ℕ
+onward t r = linkTo t (nextOf t r)
 
--- the records met, n of them, all of which have passed their own tests, when the walk stands in the chain of p, before key b
-pub record Walked (t : List ℕ) (u p b n : ℕ) : Type 0 where
-  pub met : List ℕ
-  pub count : length met ≡ n
-  pub nodup : NoDup met
-  pub root : (r : ℕ) → In r met → 1 ≤ parentOf t r
-  pub kid : (r : ℕ) → In r met → Kid t u (parentOf t r) r
-  pub before : (r : ℕ) → In r met → Before t p b r
-  pub stands : (r : ℕ) → In r met → (ms : List ℕ) × Seg t (childOf t (parentOf t r)) ms r
-  pub fact : (r : ℕ) → In r met → isRecord (nodeAt t r) ≡ true
-  pub seen : (r : ℕ) → In r met → seenOf t r ≤ seenOf t (parentOf t r)
-  pub all : Linked t u → (r : ℕ) → 1 < r → r ≤ u → Before t p b r → In r met
+-- what the links to the first records of the chains of 1 to n weigh
+pub firsts : List ℕ → ℕ → ℕ
+firsts t zero = 0
+firsts t (suc n) = firsts t n + linkTo t (childOf t (suc n))
 
--- before the record p: those before it have chains, with n records in all
-pub record Outer (t : List ℕ) (u p n : ℕ) : Type 0 where
-  pub p1 : 1 ≤ p
-  pub pu : p ≤ u + 1
-  pub chains : (q : ℕ) → 1 ≤ q → q < p → ChainOf t u q
-  pub walked : Walked t u p 0 n
+-- what the pass asks of a record other than the root
+pub record Fits (t : List ℕ) (u r : ℕ) : Type 0 where
+  pub under : Under t r
+  pub fact : isRecord (nodeAt t r) ≡ true
+  pub child : ChildFits t u r
+  pub next : NextFits t u r
+  pub light : linkTo t (nextOf t r) < weightEnd
 
--- in the chain of p, behind its records ms: c comes next, with a key from b on, if the table is linked
-pub record Inner (t : List ℕ) (u p c b n : ℕ) : Type 0 where
-  pub p1 : 1 ≤ p
-  pub pu : p ≤ u
-  pub chains : (q : ℕ) → 1 ≤ q → q < p → ChainOf t u q
-  pub ms : List ℕ
-  pub seg : Seg t (childOf t p) ms c
-  pub rising : Rising t 0 ms
-  pub below : (m : ℕ) → In m ms → keyOf t m < b
-  pub kids : (m : ℕ) → In m ms → Kid t u p m
-  pub walked : Walked t u p b n
-  pub told : Linked t u → First t u p b c
+-- before record r: those before it fit, their links and the records themselves are added up
+pub record Added (t : List ℕ) (u r links records : ℕ) : Type 0 where
+  pub low : 2 ≤ r
+  pub high : r ≤ u + 1
+  pub root : ChildFits t u 1
+  pub fits : (q : ℕ) → 1 < q → q < r → Fits t u q
+  pub links-are : links ≡ firsts t (r - 1) + total (onward t) (span (r - 2))
+  pub records-are : records ≡ total (weight t) (span (r - 2))
+  pub links-end : links ≤ r * (2 * weightEnd)
+  pub records-end : records ≤ r * weightEnd
 
-pub start : (t : List ℕ) (u : ℕ) → 1 ≤ u → Outer t u 1 0
-start t u h = record {
-  p1 = omega arith;
-  pu = omega arith;
-  chains = λ q a b. absurd (omega arith);
-  walked = record {
-    met = [];
-    count = refl;
-    nodup = tt;
-    root = λ r i. absurd i;
-    kid = λ r i. absurd i;
-    before = λ r i. absurd i;
-    stands = λ r i. absurd i;
-    fact = λ r i. absurd i;
-    seen = λ r i. absurd i;
-    all = λ L r r1 ru B. let g = L .up r r1 ru in let d = B .parent in let k = B .key (omega arith) in omega arith;
-  };
+pub added-start : (t : List ℕ) (u w : ℕ) → 1 ≤ u → ChildFits t u 1 → w ≡ linkTo t (childOf t 1) → w < weightEnd → Added t u 2 w 0
+unfolding firsts total span
+added-start t u w h C e l = record {
+  low = omega arith;
+  high = omega arith;
+  root = C;
+  fits = λ q a b. absurd (omega arith);
+  links-are = omega arith;
+  records-are = refl;
+  links-end = omega arith;
+  records-end = omega arith;
 }
 
-pub enter : (t : List ℕ) (u p n c : ℕ) → Outer t u p n → p ≤ u → c ≡ childOf t p → Inner t u p c 0 n
-enter t u p n c O h e = record {
-  p1 = O .p1;
-  pu = h;
-  chains = O .chains;
-  ms = [];
-  seg = sym e;
-  rising = tt;
-  below = λ m i. absurd i;
-  kids = λ m i. absurd i;
-  walked = O .walked;
-  told = λ L. rw e (L .child p (O .p1) h);
-}
-
--- one more at the end
-seg-snoc : (t : List ℕ) (a : ℕ) (ms : List ℕ) (c : ℕ) → Seg t a ms c → (c ≡ 0 → ⊥) → Seg t a (ms ++ c ∷ []) (nextOf t c)
-seg-snoc t a [] c s n = (s, n, refl)
-seg-snoc t a (m ∷ ms) c s n = (s .0, s .1, seg-snoc t (nextOf t m) ms c (s .2) n)
-
-in-snoc : (ms : List ℕ) (c m : ℕ) → In m (ms ++ c ∷ []) → In m ms ⊎ (m ≡ c)
-in-snoc [] c m (inl e) = inr e
-in-snoc [] c m (inr i) = absurd i
-in-snoc (x ∷ ms) c m (inl e) = inl (inl e)
-in-snoc (x ∷ ms) c m (inr i) = ⊎-elim (λ (j : In m ms). inl (inr j)) (λ e. inr e) (in-snoc ms c m i)
-
-rising-snoc : (t : List ℕ) (b : ℕ) (ms : List ℕ) (c : ℕ) → Rising t b ms → b ≤ keyOf t c → ((m : ℕ) → In m ms → keyOf t m < keyOf t c) → Rising t b (ms ++ c ∷ [])
-rising-snoc t b [] c h k f = (k, tt)
-rising-snoc t b (m ∷ ms) c h k f =
-    (h .0, rising-snoc t (keyOf t m + 1) ms c (h .1) (let g = f m (inl refl) in omega arith) (λ x i. f x (inr i)))
-
-module _ (t : List ℕ) (u p c b n : ℕ) (I : Inner t u p c b n) where
-  -- what the tests of links ask holds in a linked table
-  pub ask : Linked t u → (c ≡ 0 → ⊥) → Kid t u p c × (b ≤ keyOf t c)
-  ask L z = (I .told L .kid z, I .told L .from z)
-
-  module _ (z : c ≡ 0 → ⊥) (K : Kid t u p c) (h : b ≤ keyOf t c) (F : isRecord (nodeAt t c) ≡ true) (T : seenOf t c ≤ seenOf t p) where
-    walked-all : Linked t u → (r : ℕ) → 1 < r → r ≤ u → Before t p (keyOf t c + 1) r → In r (c ∷ I .walked .met)
-    walked-all L r r1 ru B = go (lt-or-ge (parentOf t r) p)
-      where
-        here : parentOf t r ≡ p → (keyOf t r < b) ⊎ (b ≤ keyOf t r) → In r (c ∷ I .walked .met)
-        here e (inl l) = inr (I .walked .all L r r1 ru (record { parent = omega arith; key = λ _. l }))
-        here e (inr g) =
-            let k : Kid t u p r = record { above = let q = L .up r r1 ru in omega arith; used = ru; parent = e } in
-            let l = I .told L .least r k g in
-            let m = B .key e in
-            inl (L .distinct p r c (I .p1) k K (omega arith))
-
-        go : (parentOf t r < p) ⊎ (p ≤ parentOf t r) → In r (c ∷ I .walked .met)
-        go (inl l) = inr (I .walked .all L r r1 ru (record { parent = omega arith; key = λ e. absurd (omega arith) }))
-        go (inr g) = let q = B .parent in here (omega arith) (lt-or-ge (keyOf t r) b)
-
-    walked-more : Walked t u p (keyOf t c + 1) (n + 1)
-    walked-more = record {
-      met = c ∷ I .walked .met;
-      count = let e = I .walked .count in omega arith;
-      nodup = ((λ i. let g = I .walked .before c i .key (K .parent) in omega arith), I .walked .nodup);
-      root = λ r i. ⊎-elim (λ (e : r ≡ c). rw e (rw (K .parent) (I .p1))) (λ j. I .walked .root r j) i;
-      kid = λ r i. ⊎-elim (λ (e : r ≡ c). rw e (rw (K .parent) K)) (λ j. I .walked .kid r j) i;
-      before = λ r i. ⊎-elim
-          (λ (e : r ≡ c). rw e (record { parent = let g = K .parent in omega arith; key = λ _. omega arith }))
-          (λ (j : In r (I .walked .met)). let B = I .walked .before r j in record { parent = B .parent; key = λ q. let g = B .key q in omega arith }) i;
-      stands = λ r i. ⊎-elim (λ (e : r ≡ c). (I .ms, rw e (rw (K .parent) (I .seg)))) (λ j. I .walked .stands r j) i;
-      fact = λ r i. ⊎-elim (λ (e : r ≡ c). rw e F) (λ j. I .walked .fact r j) i;
-      seen = λ r i. ⊎-elim (λ (e : r ≡ c). rw e (rw (K .parent) T)) (λ j. I .walked .seen r j) i;
-      all = walked-all;
+pub added-more : (t : List ℕ) (u r links records c n w : ℕ) → Added t u r links records → r ≤ u → Fits t u r → c ≡ linkTo t (childOf t r) → c < weightEnd
+    → n ≡ linkTo t (nextOf t r) → w ≡ weight t r → w < weightEnd → Added t u (r + 1) (links + (c + n)) (records + w)
+unfolding firsts total span
+added-more t u r links records c n w A h F ce cl ne we wl =
+    let lo = A .low in
+    let le = A .links-are in
+    let re = A .records-are in
+    let a : r + 1 - 2 ≡ suc (r - 2) = omega arith in
+    let b : r + 1 - 1 ≡ suc (r - 1) = omega arith in
+    let d : suc (r - 1) ≡ r = omega arith in
+    let g : suc (suc (r - 2)) ≡ r = omega arith in
+    record {
+      low = omega arith;
+      high = omega arith;
+      root = A .root;
+      fits = λ q q1 ql. ⊎-elim (λ (e : q ≡ r). rw e F) (λ (l : q < r). A .fits q q1 l) (eq-or-lt-of-le (let z = ql in omega arith));
+      links-are = rw (a, b, d, g) (omega arith);
+      records-are = rw (a, g) (omega arith);
+      links-end = let i = A .links-end in let k = F .light in omega arith;
+      records-end = let i = A .records-end in omega arith;
     }
 
-    pub step : (c′ : ℕ) → c′ ≡ nextOf t c → Inner t u p c′ (keyOf t c + 1) (n + 1)
-    step c′ e = record {
-      p1 = I .p1;
-      pu = I .pu;
-      chains = I .chains;
-      ms = I .ms ++ c ∷ [];
-      seg = rw e (seg-snoc t (childOf t p) (I .ms) c (I .seg) z);
-      rising = rising-snoc t 0 (I .ms) c (I .rising) (omega arith) (λ m i. let g = I .below m i in omega arith);
-      below = λ m i. ⊎-elim (λ (j : In m (I .ms)). let g = I .below m j in omega arith) (λ (q : m ≡ c). rw q (omega arith)) (in-snoc (I .ms) c m i);
-      kids = λ m i. ⊎-elim (λ (j : In m (I .ms)). I .kids m j) (λ (q : m ≡ c). rw q K) (in-snoc (I .ms) c m i);
-      walked = walked-more;
-      told = λ L. rw e (L .next p c (I .p1) K);
-    }
+-- the sums over two lists, one behind the other
+total-append : (f : ℕ → ℕ) (l m : List ℕ) → total f (l ++ m) ≡ total f l + total f m
+unfolding total
+total-append f [] m = omega arith
+total-append f (x ∷ l) m = let h = total-append f l m in omega arith
 
-  pub leave : c ≡ 0 → Outer t u (p + 1) n
-  leave z = record {
-    p1 = omega arith;
-    pu = let g = I .pu in omega arith;
-    chains = λ q q1 ql. ⊎-elim (λ (e : q ≡ p). rw e here) (λ (l : q < p). I .chains q q1 l) (eq-or-lt-of-le (let a = ql in omega arith));
-    walked = record {
-      met = I .walked .met;
-      count = I .walked .count;
-      nodup = I .walked .nodup;
-      root = I .walked .root;
-      kid = I .walked .kid;
-      before = λ r i. let B = I .walked .before r i in let g = B .parent in record { parent = omega arith; key = λ e. absurd (omega arith) };
-      stands = I .walked .stands;
-      fact = I .walked .fact;
-      seen = I .walked .seen;
-      all = λ L r r1 ru B. I .walked .all L r r1 ru (record {
-        parent = low r B;
-        key = λ e. I .told L .none z r (record { above = let q = L .up r r1 ru in omega arith; used = ru; parent = e });
-      });
-    };
-  }
-    where
-      here : ChainOf t u p
-      here = record { members = I .ms; whole = rw z at (I .seg); rising = I .rising; kids = I .kids }
+in-append : (x : ℕ) (l m : List ℕ) → In x (l ++ m) → In x l ⊎ In x m
+in-append x [] m i = inr i
+in-append x (y ∷ l) m (inl e) = inl (inl e)
+in-append x (y ∷ l) m (inr i) = ⊎-elim (λ (j : In x l). inl (inr j)) (λ (j : In x m). inr j) (in-append x l m i)
 
-      low : (r : ℕ) → Before t (p + 1) 0 r → parentOf t r ≤ p
-      low r B = ⊎-elim (λ l. omega arith) (λ g. let q = B .parent in let k = B .key (omega arith) in absurd (omega arith)) (lt-or-ge (parentOf t r) (p + 1))
+in-left : (x : ℕ) (l m : List ℕ) → In x l → In x (l ++ m)
+in-left x (y ∷ l) m (inl e) = inl e
+in-left x (y ∷ l) m (inr i) = inr (in-left x l m i)
 
-pub range : (t : List ℕ) (u p b n : ℕ) → 1 ≤ u → (S : Walked t u p b n) → (y : ℕ) → In y (S .met) → (1 < y) × (y ≤ (u - 1) + 1)
-range t u p b n h S y i = let k = S .kid y i in let r = S .root y i in let a = k .above in let c = k .used in (omega arith, omega arith)
+in-right : (x : ℕ) (l m : List ℕ) → In x m → In x (l ++ m)
+in-right x [] m i = i
+in-right x (y ∷ l) m i = inr (in-right x l m i)
 
-pub bound : (t : List ℕ) (u p b n : ℕ) → 1 ≤ u → Walked t u p b n → n ≤ u - 1
-bound t u p b n h S = let e = S .count in let g = at-most (u - 1) (S .met) (S .nodup) (range t u p b n h S) in omega arith
+nodup-append : (l m : List ℕ) → NoDup l → NoDup m → ((x : ℕ) → In x l → In x m → ⊥) → NoDup (l ++ m)
+nodup-append [] m d e f = e
+nodup-append (y ∷ l) m d e f =
+    ((λ i. ⊎-elim (d .0) (f y (inl refl)) (in-append y l m i)), nodup-append l m (d .1) e (λ x i j. f x (inr i) j))
 
-pub finish : (t : List ℕ) (u p n : ℕ) → 1 ≤ u → u * recordWidth ≤ length t → isRoot t ≡ true → Outer t u p n → u < p → n ≡ u - 1 → Chained t u × AreRecords t u
-finish t u p n h w R O ul e =
-    let chained : Chained t u = record {
-      some = h;
-      whole = w;
-      up = λ r r1 ru. (O .walked .root r (met r r1 ru), O .walked .kid r (met r r1 ru) .above);
-      chain = λ q q1 qu. O .chains q q1 (omega arith);
-      placed = λ r r1 ru. O .walked .stands r (met r r1 ru);
-    } in (
-      chained,
+-- the links of a whole chain weigh as much as its records
+chain-weighs : (t : List ℕ) (c : ℕ) (ms : List ℕ) → Seg t c ms 0 → linkTo t c + total (onward t) ms ≡ total (weight t) ms
+unfolding total
+chain-weighs t c [] s = let e = link-none t c s in omega arith
+chain-weighs t c (m ∷ ms) s =
+    let e = ap (linkTo t) (s .0) ∙ link-some t m (s .1) in
+    let h = chain-weighs t (nextOf t m) ms (s .2) in
+    omega arith
+
+-- the records in the chains of 1 to p
+record Met (t : List ℕ) (u p : ℕ) : Type 0 where
+  met : List ℕ
+  nodup : NoDup met
+  from : (r : ℕ) → In r met → (1 ≤ parentOf t r) × (parentOf t r ≤ p)
+  kid : (r : ℕ) → In r met → Kid t u (parentOf t r) r
+  stands : (r : ℕ) → In r met → (ms : List ℕ) × Seg t (childOf t (parentOf t r)) ms r
+  all : (r : ℕ) → (r ≡ 0 → ⊥) → 1 ≤ parentOf t r → parentOf t r ≤ p → (ms : List ℕ) → Seg t (childOf t (parentOf t r)) ms r → In r met
+  weighs : firsts t p + total (onward t) met ≡ total (weight t) met
+
+module _ (t : List ℕ) (u : ℕ) (chains : (q : ℕ) → 1 ≤ q → q ≤ u → ChainOf t u q) where
+  met-more : (p : ℕ) → suc p ≤ u → Met t u p → Met t u (suc p)
+  unfolding firsts
+  met-more p h M =
+      let C = chains (suc p) (omega arith) h in
+      let is : (r : ℕ) → In r (C .members) → parentOf t r ≡ suc p = λ r i. C .kids r i .parent in
       record {
-        fact = fact;
-        under-seen = λ r r1 ru.
-            let g = chained .up r r1 ru in
-            le-under-seen t r (fact (parentOf t r) (g .0) (omega arith)) (O .walked .seen r (met r r1 ru));
-      },
-    )
-  where
-    -- each record but the root was met
-    met : (r : ℕ) → 1 < r → r ≤ u → In r (O .walked .met)
-    met r r1 ru = all-in (u - 1) (O .walked .met) (O .walked .nodup) (range t u p 0 n h (O .walked)) (O .walked .count ∙ e) r r1 (omega arith)
+        met = C .members ++ M .met;
+        nodup = nodup-append (C .members) (M .met) (rising-once t 0 (C .members) (C .rising)) (M .nodup)
+            (λ x i j. let a = is x i in let b = M .from x j .1 in omega arith);
+        from = λ r i. ⊎-elim (λ (j : In r (C .members)). let a = is r j in (omega arith, omega arith))
+            (λ (j : In r (M .met)). let b = M .from r j in (b .0, let c = b .1 in omega arith)) (in-append r (C .members) (M .met) i);
+        kid = λ r i. ⊎-elim (λ (j : In r (C .members)). rw (is r j) (C .kids r j)) (λ (j : In r (M .met)). M .kid r j) (in-append r (C .members) (M .met) i);
+        stands = λ r i. ⊎-elim (λ (j : In r (C .members)). rw (is r j) (in-seg t (childOf t (suc p)) (C .members) 0 r (C .whole) j))
+            (λ (j : In r (M .met)). M .stands r j) (in-append r (C .members) (M .met) i);
+        all = λ r n r1 rp ms s. ⊎-elim
+            (λ (e : parentOf t r ≡ suc p). in-left r (C .members) (M .met) (seg-in t (childOf t (suc p)) ms r (C .members) n (rw e at s) (C .whole)))
+            (λ (l : parentOf t r < suc p). in-right r (C .members) (M .met) (M .all r n r1 (omega arith) ms s))
+            (eq-or-lt-of-le rp);
+        weighs =
+            let a = total-append (onward t) (C .members) (M .met) in
+            let b = total-append (weight t) (C .members) (M .met) in
+            let c = chain-weighs t (childOf t (suc p)) (C .members) (C .whole) in
+            let d = M .weighs in
+            omega arith;
+      }
 
-    -- and the root passed before
-    fact : (r : ℕ) → 1 ≤ r → r ≤ u → isRecord (nodeAt t r) ≡ true
-    fact r r1 ru = ⊎-elim (λ (z : 1 ≡ r). rw (← z) (root-fact t (is-root t R))) (λ (l : 1 < r). O .walked .fact r (met r l ru)) (eq-or-lt-of-le r1)
+  met-to : (p : ℕ) → p ≤ u → Met t u p
+  unfolding firsts total
+  met-to zero h = record {
+    met = [];
+    nodup = tt;
+    from = λ r i. absurd i;
+    kid = λ r i. absurd i;
+    stands = λ r i. absurd i;
+    all = λ r n r1 rp ms s. absurd (omega arith);
+    weighs = refl;
+  }
+  met-to (suc p) h = met-more p h (met-to p (omega arith))
 
-pub few : (t : List ℕ) (u p n : ℕ) → 1 ≤ u → Outer t u p n → u < p → (n ≡ u - 1 → ⊥) → Linked t u → ⊥
-few t u p n h O ul ne L =
-    let g = at-least (u - 1) (O .walked .met) (λ r r1 ru. O .walked .all L r r1 (omega arith)
-    (let q = L .up r r1 (omega arith) in record { parent = omega arith; key = λ e. absurd (omega arith) })) in
-    let k = bound t u p 0 n h (O .walked) in
-    let e = O .walked .count in
-    ne (omega arith)
+  -- all chains
+  met-all : Met t u u
+  met-all = met-to u (omega arith)
+
+  met-in : 1 ≤ u → (y : ℕ) → In y (met-all .met) → (1 < y) × (y ≤ (u - 1) + 1)
+  met-in h y i =
+      let M = met-all in
+      let k = M .kid y i in let f = M .from y i .0 in let a = k .above in let b = k .used in
+      (omega arith, omega arith)
+
+  -- the records 2 to u are those in the chains and the rest
+  parts : (h : 1 ≤ u) → Split (met-all .met) (span (u - 1))
+  parts h = let M = met-all in split (M .met) (span (u - 1)) (M .nodup) (λ y i. let g = met-in h y i in span-in (u - 1) y (g .0) (g .1))
+
+  -- the weights are equal just where those of the rest are
+  parts-weigh : (h : 1 ≤ u) (links records : ℕ) → links ≡ firsts t u + total (onward t) (span (u - 1)) → records ≡ total (weight t) (span (u - 1))
+      → links + total (weight t) (parts h .rest) ≡ records + total (onward t) (parts h .rest)
+  parts-weigh h links records e q =
+      let P = parts h in
+      let a = P .sums (onward t) in
+      let b = P .sums (weight t) in
+      let w = met-all .weighs in
+      omega arith
+
+-- records that have no next one, or one with a higher key, weigh less or more than the links to the next ones
+module _ (t : List ℕ) where
+  lower : (l : List ℕ) → length l * linkWeight ≤ total (weight t) l
+  unfolding total
+  lower [] = omega arith
+  lower (x ∷ l) = let h = lower l in let e = weight-is t x in omega arith
+
+  upper : (l : List ℕ) → ((y : ℕ) → In y l → onward t y < weightEnd) → total (onward t) l ≤ length l * weightEnd
+  unfolding total
+  upper [] f = omega arith
+  upper (x ∷ l) f = let h = upper l (λ y i. f y (inr i)) in let e = f x (inl refl) in omega arith
+
+  either : (l : List ℕ) → ((y : ℕ) → In y l → onward t y < weightEnd) → ((y : ℕ) → In y l → (onward t y ≡ 0) ⊎ (weight t y < onward t y))
+      → (total (weight t) l + length l ≤ total (onward t) l) ⊎ (total (onward t) l + weightEnd ≤ length l * weightEnd)
+  unfolding total
+  either [] f g = inl (omega arith)
+  either (x ∷ l) f g = go (g x (inl refl)) (either l (λ y i. f y (inr i)) (λ y i. g y (inr i)))
+    where
+      go : (onward t x ≡ 0) ⊎ (weight t x < onward t x) → (total (weight t) l + length l ≤ total (onward t) l) ⊎ (total (onward t) l + weightEnd ≤ length l * weightEnd)
+          → (total (weight t) (x ∷ l) + length (x ∷ l) ≤ total (onward t) (x ∷ l)) ⊎ (total (onward t) (x ∷ l) + weightEnd ≤ length (x ∷ l) * weightEnd)
+      go (inl z) _ = inr (let h = upper l (λ y i. f y (inr i)) in omega arith)
+      go (inr m) (inl h) = inl (omega arith)
+      go (inr m) (inr h) = inr (let e = f x (inl refl) in omega arith)
+
+  none-left : (l : List ℕ) → length l ≤ recordsMax → ((y : ℕ) → In y l → onward t y < weightEnd)
+      → ((y : ℕ) → In y l → (onward t y ≡ 0) ⊎ (weight t y < onward t y)) → total (weight t) l ≡ total (onward t) l → length l ≡ 0
+  none-left l m f g e = ⊎-elim (λ h. omega arith) (λ h. let a = lower l in absurd (omega arith)) (either l f g)
+
+  nothing : (f : ℕ → ℕ) (l : List ℕ) → length l ≡ 0 → total f l ≡ 0
+  unfolding total
+  nothing f [] e = refl
+  nothing f (x ∷ l) e = absurd (omega arith)
+
+-- the chain of p, from c on, with keys from b on
+record Partly (t : List ℕ) (u p b c : ℕ) : Type 0 where
+  members : List ℕ
+  seg : Seg t c members 0
+  rising : Rising t b members
+  kids : (m : ℕ) → In m members → Kid t u p m
+
+module _ (t : List ℕ) (u p : ℕ) (p1 : 1 ≤ p) (fits : (q : ℕ) → 1 < q → q ≤ u → NextFits t u q) where
+  end : (b c : ℕ) → c ≡ 0 → Partly t u p b c
+  end b c z = record { members = []; seg = z; rising = tt; kids = λ m i. absurd i }
+
+  more : (b c : ℕ) → (c ≡ 0 → ⊥) → Kid t u p c → b ≤ keyOf t c → Partly t u p (keyOf t c + 1) (nextOf t c) → Partly t u p b c
+  more b c n k h B = record {
+    members = c ∷ B .members;
+    seg = (refl, n, B .seg);
+    rising = (h, B .rising);
+    kids = λ x i. ⊎-elim (λ e. rw e k) (λ j. B .kids x j) i;
+  }
+
+  -- the one behind a child of p
+  behind : (c : ℕ) → Kid t u p c → (nextOf t c ≡ 0 → ⊥) → Kid t u p (nextOf t c) × (keyOf t c + 1 ≤ keyOf t (nextOf t c))
+  behind c k n = let f = fits c (let x = k .above in omega arith) (k .used) n in (rw (k .parent) at (f .0), let y = f .1 in omega arith)
+
+  follow : (n b c : ℕ) → top t < b + n → ((c ≡ 0 → ⊥) → Kid t u p c × (b ≤ keyOf t c)) → Partly t u p b c
+  follow zero b c h K = end b c (go (ℕ-discrete c 0))
+    where
+      go : Dec (c ≡ 0) → c ≡ 0
+      go (yes z) = z
+      go (no m) = let a = K m .1 in let k = key-le t c in absurd (omega arith)
+  follow (suc n) b c h K = go (ℕ-discrete c 0) (λ m. follow n (keyOf t c + 1) (nextOf t c) (let a = K m .1 in omega arith) (behind c (K m .0)))
+    where
+      go : Dec (c ≡ 0) → ((c ≡ 0 → ⊥) → Partly t u p (keyOf t c + 1) (nextOf t c)) → Partly t u p b c
+      go (yes z) f = end b c z
+      go (no m) f = more b c m (K m .0) (K m .1) (f m)
+
+  pub chain-of : ChildFits t u p → ChainOf t u p
+  chain-of C =
+      let B = follow (top t + 1) 0 (childOf t p) (omega arith) (λ n. (C n, omega arith)) in
+      record { members = B .members; whole = B .seg; rising = B .rising; kids = B .kids }
+
+module _ (t : List ℕ) (u links records : ℕ) (h : 1 ≤ u) (m : u ≤ recordsMax) where
+  -- equal weights: every record stands in a chain
+  pub weighed-chained : u * recordWidth ≤ length t → isRoot t ≡ true → Added t u (u + 1) links records → links ≡ records → Chained t u × AreRecords t u
+  weighed-chained w R A e = (chained, record { fact = fact; under-seen = under-seen })
+    where
+      fits : (q : ℕ) → 1 < q → q ≤ u → Fits t u q
+      fits q a b = A .fits q a (omega arith)
+
+      child : (p : ℕ) → 1 ≤ p → p ≤ u → ChildFits t u p
+      child p a b = ⊎-elim (λ (z : 1 ≡ p). rw (← z) (A .root)) (λ (l : 1 < p). fits p l b .child) (eq-or-lt-of-le a)
+
+      chains : (p : ℕ) → 1 ≤ p → p ≤ u → ChainOf t u p
+      chains p a b = chain-of t u p a (λ q x y. fits q x y .next) (child p a b)
+
+      M : Met t u u
+      M = met-all t u chains
+
+      in-rest : (y : ℕ) → In y (parts t u chains h .rest) → (1 < y) × (y ≤ u)
+      in-rest y i = let g = in-span (u - 1) y (parts t u chains h .within y i) in (g .0, let k = g .1 in omega arith)
+
+      rises : (y : ℕ) → In y (parts t u chains h .rest) → (onward t y ≡ 0) ⊎ (weight t y < onward t y)
+      rises y i = let g = in-rest y i in go (ℕ-discrete (nextOf t y) 0) (fits y (g .0) (g .1) .next)
+        where
+          go : Dec (nextOf t y ≡ 0) → NextFits t u y → (onward t y ≡ 0) ⊎ (weight t y < onward t y)
+          go (yes z) f = inl (link-none t (nextOf t y) z)
+          go (no n) f =
+              inr (let k = f n .1 in let a = link-some t (nextOf t y) n in let b = weight-is t (nextOf t y) in let c = weight-is t y in omega arith)
+
+      left : length (parts t u chains h .rest) ≡ 0
+      left =
+          let P = parts t u chains h in
+          let c = P .count in
+          let s = length-span (u - 1) in
+          let l = A .links-are in
+          let q = A .records-are in
+          let a : u + 1 - 1 ≡ u = omega arith in
+          let b : u + 1 - 2 ≡ u - 1 = omega arith in
+          let v = parts-weigh t u chains h links records (rw (a, b) at l) (rw b at q) in
+          none-left t (P .rest) (omega arith) (λ y i. let g = in-rest y i in fits y (g .0) (g .1) .light) rises (omega arith)
+
+      met : (r : ℕ) → 1 < r → r ≤ u → In r (M .met)
+      met r r1 ru =
+          let c = parts t u chains h .count in
+          let s = length-span (u - 1) in
+          let z = left in
+          all-in (u - 1) (M .met) (M .nodup) (met-in t u chains h) (omega arith) r r1 (omega arith)
+
+      chained : Chained t u
+      chained = record {
+        some = h;
+        whole = w;
+        up = λ r r1 ru. (fits r r1 ru .under .from, fits r r1 ru .under .above);
+        chain = chains;
+        placed = λ r r1 ru. M .stands r (met r r1 ru);
+      }
+
+      -- the root passed before
+      fact : (r : ℕ) → 1 ≤ r → r ≤ u → isRecord (nodeAt t r) ≡ true
+      fact r r1 ru = ⊎-elim (λ (z : 1 ≡ r). rw (← z) (root-fact t (is-root t R))) (λ (l : 1 < r). fits r l ru .fact) (eq-or-lt-of-le r1)
+
+      under-seen : (r : ℕ) → 1 < r → r ≤ u → isUnderSeen t r ≡ true
+      under-seen r r1 ru = let U = fits r r1 ru .under in let a = U .above in le-under-seen t r (fact (parentOf t r) (U .from) (omega arith)) (U .seen)
+
+  -- every record stands in a chain: equal weights
+  pub chained-weighed : Chained t u → Added t u (u + 1) links records → links ≡ records
+  chained-weighed C A =
+      let M = met-all t u (C .chain) in
+      let P = parts t u (C .chain) h in
+      let n = at-least (u - 1) (M .met) (λ r r1 ru. let g = C .up r r1 (omega arith) in let s = C .placed r r1 (omega arith) in
+      M .all r (λ z. omega arith) (g .0) (let k = g .1 in omega arith) (s .0) (s .1)) in
+      let c = P .count in
+      let s = length-span (u - 1) in
+      let z : length (P .rest) ≡ 0 = omega arith in
+      let x = nothing t (onward t) (P .rest) z in
+      let y = nothing t (weight t) (P .rest) z in
+      let l = A .links-are in
+      let q = A .records-are in
+      let a : u + 1 - 1 ≡ u = omega arith in
+      let b : u + 1 - 2 ≡ u - 1 = omega arith in
+      let v = parts-weigh t u (C .chain) h links records (rw (a, b) at l) (rw b at q) in
+      omega arith
+
+  -- what the last test tells
+  pub told : u * recordWidth ≤ length t → isRoot t ≡ true → (r : ℕ) → Added t u r links records → u < r → Tells (eqb links records) (Chained t u × AreRecords t u)
+  told w R r A l = go (eqb links records) refl
+    where
+      all : Added t u (u + 1) links records
+      all = rw (let k = A .high in let e : r ≡ u + 1 = omega arith in e) at A
+
+      go : (b : Bool) → eqb links records ≡ b → Tells b (Chained t u × AreRecords t u)
+      go true e = weighed-chained w R all (eqb-true links records e)
+      go false e = λ S. eqb-false links records e (chained-weighed (S .0) all)
+
+-- what a chained table has at each record
+module _ (t : List ℕ) (u : ℕ) (C : Chained t u) where
+  pub chained-child : (p : ℕ) → 1 ≤ p → p ≤ u → ChildFits t u p
+  chained-child p p1 pu n = chained-linked t u C .child p p1 pu .kid n
+
+  pub chained-next : (r : ℕ) → 1 < r → r ≤ u → NextFits t u r
+  chained-next r r1 ru n =
+      let g = C .up r r1 ru in
+      let F = chained-linked t u C .next (parentOf t r) r (g .0) (record { above = g .1; used = ru; parent = refl }) in
+      (F .kid n, let k = F .from n in omega arith)
+
+  pub chained-under : AreRecords t u → (r : ℕ) → 1 < r → r ≤ u → Under t r
+  chained-under A r r1 ru =
+      let g = C .up r r1 ru in
+      record { from = g .0; above = g .1; seen = under-seen-le t r (A .fact r (omega arith) ru) (A .under-seen r r1 ru) }

@@ -1,4 +1,4 @@
--- Lists with no number twice, and the counting argument: such a list within another is no longer than it. Assumes nothing.
+-- Lists with no number twice, and the counting argument: such a list within another is no longer than it, and the rest makes up the sums. Assumes nothing.
 use Prim.Native.Nat.{ℕ, zero, suc, _+_, _-_, _≤_, _<_, zero-le}
 use mathlib.Core.Path.{_≡_, refl, sym, ap, _∙_, subst}
 use mathlib.Core.Logic.{_⊎_, inl, inr, ⊎-elim}
@@ -12,29 +12,60 @@ abbrev pub NoDup : List ℕ → Type 0
 NoDup [] = Unit {0}
 NoDup (x ∷ xs) = (In x xs → ⊥) × NoDup xs
 
+-- the sum of f over a list
+unfoldable pub total : (ℕ → ℕ) → List ℕ → ℕ
+total f [] = 0
+total f (x ∷ xs) = f x + total f xs
+
 -- one taken out
-pub record Without (x : ℕ) (m : List ℕ) : Type 0 where
-  pub rest : List ℕ
-  pub one : length m ≡ suc (length rest)
-  pub others : (y : ℕ) → In y m → (y ≡ x → ⊥) → In y rest
+record Without (x : ℕ) (m : List ℕ) : Type 0 where
+  rest : List ℕ
+  one : length m ≡ suc (length rest)
+  others : (y : ℕ) → In y m → (y ≡ x → ⊥) → In y rest
+  within : (y : ℕ) → In y rest → In y m
+  sums : (f : ℕ → ℕ) → total f m ≡ f x + total f rest
 
 without : (x : ℕ) (m : List ℕ) → In x m → Without x m
-without x (y ∷ ys) (inl e) = record { rest = ys; one = refl; others = λ z i n. ⊎-elim (λ q. absurd (n (q ∙ sym e))) (λ j. j) i }
+unfolding total
+without x (y ∷ ys) (inl e) = record {
+  rest = ys;
+  one = refl;
+  others = λ z i n. ⊎-elim (λ q. absurd (n (q ∙ sym e))) (λ j. j) i;
+  within = λ z i. inr i;
+  sums = λ f. ap (λ (z : ℕ). f z + total f ys) (sym e);
+}
 without x (y ∷ ys) (inr i) =
     let w = without x ys i in
     record {
       rest = y ∷ w .rest;
       one = ap suc (w .one);
       others = λ z j n. ⊎-elim (λ q. inl q) (λ k. inr (w .others z k n)) j;
+      within = λ z j. ⊎-elim (λ q. inl q) (λ k. inr (w .within z k)) j;
+      sums = λ f. let s = w .sums f in omega arith;
+    }
+
+-- m is l and the rest, but for their order
+pub record Split (l m : List ℕ) : Type 0 where
+  pub rest : List ℕ
+  pub count : length m ≡ length l + length rest
+  pub within : (y : ℕ) → In y rest → In y m
+  pub sums : (f : ℕ → ℕ) → total f m ≡ total f l + total f rest
+
+pub split : (l m : List ℕ) → NoDup l → ((y : ℕ) → In y l → In y m) → Split l m
+unfolding total
+split [] m d s = record { rest = m; count = omega arith; within = λ y i. i; sums = λ f. omega arith }
+split (x ∷ l) m d s =
+    let w = without x m (s x (inl refl)) in
+    let p = split l (w .rest) (d .1) (λ y i. w .others y (s y (inr i)) (λ e. d .0 (subst (λ (z : ℕ). In z l) e i))) in
+    record {
+      rest = p .rest;
+      count = let o = w .one in let c = p .count in omega arith;
+      within = λ y i. w .within y (p .within y i);
+      sums = λ f. let a = w .sums f in let b = p .sums f in omega arith;
     }
 
 pub sub-length : (l m : List ℕ) → NoDup l → ((y : ℕ) → In y l → In y m) → length l ≤ length m
-sub-length [] m d s = zero-le
-sub-length (x ∷ l) m d s =
-    let w = without x m (s x (inl refl)) in
-    let h = sub-length l (w .rest) (d .1) (λ y i. w .others y (s y (inr i)) (λ e. d .0 (subst (λ (z : ℕ). In z l) e i))) in
-    let o = w .one in
-    omega arith
+sub-length l m d s = let c = split l m d s .count in omega arith
 
 pub in-dec : (x : ℕ) (l : List ℕ) → Dec (In x l)
 in-dec x [] = no (λ i. i)
@@ -46,7 +77,7 @@ in-dec x (y ∷ ys) = go (ℕ-discrete x y) (in-dec x ys)
     go (no n) (no j) = no (λ i. ⊎-elim n j i)
 
 -- 2 to n + 1
-pub span : ℕ → List ℕ
+unfoldable pub span : ℕ → List ℕ
 span zero = []
 span (suc n) = suc (suc n) ∷ span n
 

@@ -2,6 +2,7 @@ pub mod Laws
 pub mod Counts
 pub mod Distinct
 pub mod Chains
+mod Weights
 mod Check
 mod Scan
 mod Zeros

@@ -6,3 +6,4 @@ pub mod Fact
 pub mod Sound
 pub mod Formed
 pub mod Fresh
+pub mod Weights

@@ -18,3 +18,9 @@ pub enum Records {
     Count(u32),
     Unfit,
 }
+
+// A link of a record, as question 2 weighs it.
+pub enum Link {
+    Weight(u64),
+    Refused,
+}

@@ -1,259 +1,244 @@
--- `facts::links::are_chained_records` meets its contract: `Outer` holds before each record, `Inner` before each child in its chain. Assumes nothing.
-use Prim.Native.Nat.{ℕ, _+_, _-_, _^_, _≤_, _<_}
+-- `facts::links::are_chained_records` meets its contract: `Added` holds before each record. Assumes nothing.
+use Prim.Native.Nat.{ℕ, _+_, _-_, _≤_, _<_}
 use mathlib.Core.Path.{_≡_, sym, _∙_}
 use mathlib.Core.Bool.{true, true≢false}
-use native.Mathlib.Omega.{arith}
 use mathlib.Core.List.{List}
+use native.Mathlib.Omega.{arith}
 use denote.Ref.{now}
+use borrow.Author.Needs.{needs}
 use borrow.Author.Tests.{not-true, not-false}
-use Rattle.limits.specs.Limits.{recordWidth}
-use Rattle.limits.specs.Fields as fields
-use Rattle.facts.specs.Table.{keyOf, seenOf, Has}
-use Rattle.facts.specs.Links.{Kid, Chained}
+use Rattle.facts.specs.Table.{HasRecord, childOf, nextOf}
 use Rattle.facts.specs.State.{nodeAt}
-use Rattle.facts.specs.Fact.{isRecord, AreRecords}
-use Rattle.facts.proofs.Chains.{chained-linked}
-use Rattle.facts.proofs.Whole.{under-seen-le}
-use Rattle.facts.proofs.Check.{Outer, Inner, start, enter, ask, step, leave, bound, finish, few}
+use Rattle.facts.specs.Fact.{isRecord}
+use Rattle.facts.specs.Weights.{Under, ChildFits, NextFits, linkTo, weightEnd}
+use Rattle.facts.proofs.Weights.{taken, refused}
+use Rattle.facts.proofs.Check.{Added, Fits, added-start, added-more, told, chained-child, chained-next, chained-under}
 use Rattle.facts.proofs.links.are_chained_records.Statement.{statement}
 use Rattle.facts.proofs.links.are_chained_records.Tie as tie
 
-abbrev Inv-loop2 : tie.InvT-loop2
-Inv-loop2 table used met₀ p seen c₀ low₀ met c low = Inner table used p c low met
-
-abbrev μ-loop2 : tie.MeasureT-loop2
-μ-loop2 table used met₀ p seen c₀ low₀ met c low = 2 ^ 32 - low
-
 abbrev Inv-loop : tie.InvT-loop
-Inv-loop table used met₀ p₀ met p = Outer table used p met
+Inv-loop table used first links₀ records₀ r₀ links records r = Added table used r links records
 
 abbrev μ-loop : tie.MeasureT-loop
-μ-loop table used met₀ p₀ met p = used + 1 - p
+μ-loop table used first links₀ records₀ r₀ links records r = used + 1 - r
 
--- in a turn of the outer loop: the record is there
-abbrev In1 : Type 0
-In1 = tie.In-loop Inv-loop2 μ-loop2 Inv-loop μ-loop
+-- in a turn: the function's start, the table, the record
+abbrev Turn : Type 0
+Turn = tie.In-loop Inv-loop μ-loop
 
-there : (c : In1) (f : ℕ) → f < recordWidth → Has (now (c .before .before .before .args .table)) (c .before .loop .p) f
-there c f l =
-    let h = c .loop-test .taken in
-    let w = c .before .before .before .pre .1 .0 in
-    record { from = c .before .loop .inv .p1; within = omega arith; one = l }
-
--- in a turn of the inner loop: the function's start, the table, the place
-abbrev In2 : Type 0
-In2 = tie.In-loop2 Inv-loop2 μ-loop2 Inv-loop μ-loop
-
-abbrev St : Type 0
-St = tie.Start Inv-loop2 μ-loop2 Inv-loop μ-loop
-
-abbrev st : In2 → St
+abbrev st : Turn → tie.Start Inv-loop μ-loop
 st c = c .before .before .before .before .before .before .before
 
-abbrev T : In2 → List ℕ
+abbrev T : Turn → List ℕ
 T c = now (st c .args .table)
 
-abbrev U : In2 → ℕ
+abbrev U : Turn → ℕ
 U c = st c .args .used
 
-abbrev P : In2 → ℕ
-P c = c .before .before .before .before .before .loop .p
+abbrev R : Turn → ℕ
+R c = c .before .loop .r
 
-abbrev C : In2 → ℕ
-C c = c .before .loop2 .c
-
-asked : (c : In2) → Chained (T c) (U c) → Kid (T c) (U c) (P c) (C c) × (c .before .loop2 .low ≤ keyOf (T c) (C c))
-asked c S = ask _ _ _ _ _ _ (c .before .loop2 .inv) (chained-linked _ _ S) (c .loop2-test .taken)
+there : (c : Turn) → HasRecord (T c) (R c)
+there c =
+    let h = c .loop-test .taken in
+    let l = c .before .loop .inv .low in
+    let w = st c .pre .1 .0 in
+    record { from = omega arith; within = omega arith }
 
 -- behind each of the four tests, and from each to the one before
 abbrev Else1 : Type 0
-Else1 = tie.Else1 Inv-loop2 μ-loop2 Inv-loop μ-loop
+Else1 = tie.Else1 Inv-loop μ-loop
 
 abbrev Else2 : Type 0
-Else2 = tie.Else2 Inv-loop2 μ-loop2 Inv-loop μ-loop
+Else2 = tie.Else2 Inv-loop μ-loop
 
-abbrev Else3 : Type 0
-Else3 = tie.Else3 Inv-loop2 μ-loop2 Inv-loop μ-loop
+abbrev Child : Type 0
+Child = tie.After-known-told2 Inv-loop μ-loop
 
-abbrev Else4 : Type 0
-Else4 = tie.Else4 Inv-loop2 μ-loop2 Inv-loop μ-loop
+abbrev Next : Type 0
+Next = tie.After-known-told3 Inv-loop μ-loop
 
-abbrev turn : Else1 → In2
+abbrev turn : Else1 → Turn
 turn c = c .before .before
 
 abbrev first : Else2 → Else1
-first c = c .before .before .before
+first c = c .before .before
 
-abbrev second : Else3 → Else2
-second c = c .before .before
+abbrev second : Child → Else2
+second c = c .before .before .before .before
 
-abbrev third : Else4 → Else3
-third c = c .before .before
+abbrev third : Next → Child
+third c = c .before .before .before .before
 
--- the record is a child of p
-kid : (c : Else1) → let i = turn c in Kid (T i) (U i) (P i) (C i)
-kid c = let r = c .before .is-kid in rw (not-false (r .result) (c .if1 .left)) at (r .ensures)
+under : (c : Else1) → Under (T (turn c)) (R (turn c))
+under c = let r = c .before .is-under in rw (not-false (r .result) (c .if1 .left)) at (r .ensures)
 
-has : (c : Else1) (f : ℕ) → f < recordWidth → let i = turn c in Has (T i) (C i) f
-has c f l =
-    let k = kid c .used in
-    record { from = let z = turn c .loop2-test .taken in omega arith; within = let w = st (turn c) .pre .1 .0 in omega arith; one = l }
+fact : (c : Else2) → let i = turn (first c) in isRecord (nodeAt (T i) (R i)) ≡ true
+fact c = let r = c .before .is-record in sym (r .ensures) ∙ not-false (r .result) (c .if2 .left)
 
--- what sound records have, the one met has
-tested : (c : Else1) → let i = turn c in AreRecords (T i) (U i) → (isRecord (nodeAt (T i) (C i)) ≡ true) × (seenOf (T i) (C i) ≤ seenOf (T i) (P i))
-tested c A =
-    let i = turn c in
-    let K = kid c in
-    let p1 = i .before .loop2 .inv .p1 in
-    let a = K .above in
-    let f = A .fact (C i) (omega arith) (K .used) in
-    (f, rw (K .parent) at (under-seen-le (T i) (C i) f (A .under-seen (C i) (omega arith) (K .used))))
+-- what the links weigh
+child : (c : Child) → let i = turn (first (second c)) in let w = c .before .child .given .0 .0 in
+    ChildFits (T i) (U i) (R i) × (w ≡ linkTo (T i) (childOf (T i) (R i))) × (w < weightEnd)
+child c = taken _ _ _ _ (c .before .before .before .child-link2 .ensures) _ (c .before .child .given .1)
 
--- and has passed its own tests
-fact : (c : Else4) → let i = turn (first (second (third c))) in isRecord (nodeAt (T i) (C i)) ≡ true
-fact c = let r = c .before .is-record in sym (r .ensures) ∙ not-false (r .result) (c .if4 .left)
+next : (c : Next) → let i = turn (first (second (third c))) in let w = c .before .next .given .0 .0 in
+    NextFits (T i) (U i) (R i) × (w ≡ linkTo (T i) (nextOf (T i) (R i))) × (w < weightEnd)
+next c = taken _ _ _ _ (c .before .before .before .next-link .ensures) _ (c .before .next .given .1)
 
-loop-holds : tie.Need-loop-holds Inv-loop2 μ-loop2 Inv-loop μ-loop
-loop-holds c = start _ _ (c .before .pre .0 .0)
+child-link-requires : tie.Need-child-link-requires Inv-loop μ-loop
+child-link-requires c κs = search needs
 
-field-requires : tie.Need-field-requires Inv-loop2 μ-loop2 Inv-loop μ-loop
-field-requires c κs = there c fields.seen (omega arith)
+enum-known-first : tie.Need-enum-known-first Inv-loop μ-loop
+enum-known-first c = search needs
 
-field-requires-2 : tie.Need-field-requires-2 Inv-loop2 μ-loop2 Inv-loop μ-loop
-field-requires-2 c κs = there (c .before) fields.child (omega arith)
+enum-told : tie.Need-enum-told Inv-loop μ-loop
+enum-told c = search needs
 
-loop2-holds : tie.Need-loop2-holds Inv-loop2 μ-loop2 Inv-loop μ-loop
-loop2-holds c =
-    let i = c .before .before in
-    enter _ _ _ _ _ (i .before .loop .inv) (i .loop-test .taken) (c .field2 .ensures)
-
-is-kid-requires : tie.Need-is-kid-requires Inv-loop2 μ-loop2 Inv-loop μ-loop
-is-kid-requires c κs = st c .pre .1 .0
-
-returns : tie.Need-returns Inv-loop2 μ-loop2 Inv-loop μ-loop
+returns : tie.Need-returns Inv-loop μ-loop
 returns c S =
-    let r = c .before .is-kid in
-    (rw (not-true (r .result) (c .if1 .taken)) at (r .ensures)) (asked (c .before .before) (S .0) .0)
+    let s = c .before .before .before .before in
+    refused _ _ _ _ (c .before .before .child-link .ensures) (c .enum-told .given .1) (chained-child _ _ (S .0) 1 (omega arith) (s .pre .0 .0))
 
-field-requires-3 : tie.Need-field-requires-3 Inv-loop2 μ-loop2 Inv-loop μ-loop
-field-requires-3 c κs = has c fields.next (omega arith)
+loop-holds : tie.Need-loop-holds Inv-loop μ-loop
+loop-holds c =
+    let m = c .before .before .before in
+    let w = taken _ _ _ _ (m .child-link .ensures) _ (c .before .first .given .1) in
+    added-start _ _ _ (m .before .before .pre .0 .0) (w .0) (w .1) (w .2)
 
-field-requires-4 : tie.Need-field-requires-4 Inv-loop2 μ-loop2 Inv-loop μ-loop
-field-requires-4 c κs = has (c .before) fields.key (omega arith)
+is-under-requires : tie.Need-is-under-requires Inv-loop μ-loop
+is-under-requires c κs = there c
 
-cast-k : tie.Need-cast-k Inv-loop2 μ-loop2 Inv-loop μ-loop
-cast-k c = omega (arith, c .field4 .ok)
-
-returns-2 : tie.Need-returns-2 Inv-loop2 μ-loop2 Inv-loop μ-loop
+returns-2 : tie.Need-returns-2 Inv-loop μ-loop
 returns-2 c S =
-    let k = asked (turn (c .before .before .before)) (S .0) in
-    let h = c .if2 .taken in
-    let e = c .before .field4 .ensures in
-    omega arith
+    let r = c .before .is-under in
+    let i = c .before .before in
+    let l = i .before .loop .inv .low in
+    (rw (not-true (r .result) (c .if1 .taken)) at (r .ensures)) (chained-under _ _ (S .0) (S .1) (R i) (omega arith) (i .loop-test .taken))
 
-field-requires-5 : tie.Need-field-requires-5 Inv-loop2 μ-loop2 Inv-loop μ-loop
-field-requires-5 c κs = has (first c) fields.seen (omega arith)
+is-record-requires : tie.Need-is-record-requires Inv-loop μ-loop
+is-record-requires c κs = there (turn c)
 
-returns-3 : tie.Need-returns-3 Inv-loop2 μ-loop2 Inv-loop μ-loop
+returns-3 : tie.Need-returns-3 Inv-loop μ-loop
 returns-3 c S =
-    let one = first (c .before .before) in
-    let l = tested one (S .1) .1 in
-    let h = c .if3 .taken in
-    let e = turn one .before .before .before .field .ensures in
-    let f = c .before .field5 .ensures in
-    omega arith
-
-is-record-requires : tie.Need-is-record-requires Inv-loop2 μ-loop2 Inv-loop μ-loop
-is-record-requires c κs = let h = has (first (second c)) fields.seen (omega arith) in record { from = h .from; within = h .within }
-
-returns-4 : tie.Need-returns-4 Inv-loop2 μ-loop2 Inv-loop μ-loop
-returns-4 c S =
     let r = c .before .is-record in
-    true≢false (sym (tested (first (second (c .before .before))) (S .1) .0) ∙ sym (r .ensures) ∙ not-true (r .result) (c .if4 .taken))
+    let i = turn (c .before .before) in
+    let l = i .before .loop .inv .low in
+    true≢false (sym (S .1 .fact (R i) (omega arith) (i .loop-test .taken)) ∙ sym (r .ensures) ∙ not-true (r .result) (c .if2 .taken))
 
-add-low : tie.Need-add-low Inv-loop2 μ-loop2 Inv-loop μ-loop
-add-low c = omega (arith, second (third c) .before .field4 .ok)
+child-link-requires-2 : tie.Need-child-link-requires-2 Inv-loop μ-loop
+child-link-requires-2 c κs = let i = turn (first c) in ((there i .from, i .loop-test .taken), st i .pre .1 .0)
 
-add-met : tie.Need-add-met Inv-loop2 μ-loop2 Inv-loop μ-loop
-add-met c =
+enum-known-child : tie.Need-enum-known-child Inv-loop μ-loop
+enum-known-child c = search needs
+
+enum-told-2 : tie.Need-enum-told-2 Inv-loop μ-loop
+enum-told-2 c = search needs
+
+returns-4 : tie.Need-returns-4 Inv-loop μ-loop
+returns-4 c S =
+    let a = c .before .before in
+    let i = turn (first (a .before)) in
+    refused _ _ _ _ (a .child-link2 .ensures) (c .enum-told2 .given .1) (chained-child _ _ (S .0) (R i) (there i .from) (i .loop-test .taken))
+
+next-link-requires : tie.Need-next-link-requires Inv-loop μ-loop
+next-link-requires c κs = let i = turn (first (second c)) in ((there i .from, i .loop-test .taken), st i .pre .1 .0)
+
+enum-known-next : tie.Need-enum-known-next Inv-loop μ-loop
+enum-known-next c = search needs
+
+enum-told-3 : tie.Need-enum-told-3 Inv-loop μ-loop
+enum-told-3 c = search needs
+
+returns-5 : tie.Need-returns-5 Inv-loop μ-loop
+returns-5 c S =
+    let a = c .before .before in
+    let i = turn (first (second (a .before))) in
+    let l = i .before .loop .inv .low in
+    refused _ _ _ _ (a .next-link .ensures) (c .enum-told3 .given .1) (chained-next _ _ (S .0) (R i) (omega arith) (i .loop-test .taken))
+
+add-links : tie.Need-add-links Inv-loop μ-loop
+add-links c = let a = child (third c) .2 in let b = next c .2 in omega arith
+
+add-links-2 : tie.Need-add-links-2 Inv-loop μ-loop
+add-links-2 c =
     let i = turn (first (second (third c))) in
-    let s = st i in
-    let b = bound _ _ _ _ _ (s .pre .0 .0) (i .before .loop2 .inv .walked) in
-    let h = s .pre .0 .1 in
+    let a = child (third c) .2 in
+    let b = next c .2 in
+    let h = i .before .loop .inv .links-end in
+    let l = i .loop-test .taken in
+    let m = st i .pre .0 .1 in
     omega arith
 
-loop2-less : tie.Need-loop2-less Inv-loop2 μ-loop2 Inv-loop μ-loop
-loop2-less c =
-    let two = second (third c) in
-    let h = two .if2 .left in
-    let k = two .before .field4 .ok in
+weight-of-requires : tie.Need-weight-of-requires Inv-loop μ-loop
+weight-of-requires c κs = there (turn (first (second (third c))))
+
+add-records : tie.Need-add-records Inv-loop μ-loop
+add-records c =
+    let i = turn (first (second (third (c .before)))) in
+    let w = c .weight-of .ensures .1 in
+    let h = i .before .loop .inv .records-end in
+    let l = i .loop-test .taken in
+    let m = st i .pre .0 .1 in
     omega arith
 
-loop2-again : tie.Need-loop2-again Inv-loop2 μ-loop2 Inv-loop μ-loop
-loop2-again c =
-    let three = third c in
-    let two = second three in
-    let one = first two in
-    let i = turn one in
-    let e = two .before .field4 .ensures in
-    let s = i .before .before .before .field .ensures in
-    let l : seenOf (T i) (C i) ≤ seenOf (T i) (P i) = let h = three .if3 .left in let f = three .before .field5 .ensures in omega arith in
-    let k : i .before .loop2 .low ≤ keyOf (T i) (C i) = let h = two .if2 .left in omega arith in
-    rw e (step _ _ _ _ _ _ (i .before .loop2 .inv) (i .loop2-test .taken) (kid one) k (fact c) l _ (two .before .before .field3 .ensures))
+add-r : tie.Need-add-r Inv-loop μ-loop
+add-r c =
+    let i = turn (first (second (third (c .before)))) in
+    let l = i .loop-test .taken in
+    let m = st i .pre .0 .1 in
+    omega arith
 
-add-p : tie.Need-add-p Inv-loop2 μ-loop2 Inv-loop μ-loop
-add-p c =
-    let i = c .before .before .before .before in
-    omega (arith, i .loop-test .taken, i .before .before .before .pre .0)
+loop-less : tie.Need-loop-less Inv-loop μ-loop
+loop-less c = let l = turn (first (second (third (c .before)))) .loop-test .taken in omega arith
 
-loop-less : tie.Need-loop-less Inv-loop2 μ-loop2 Inv-loop μ-loop
-loop-less c = let h = c .before .before .before .before .loop-test .taken in omega arith
+loop-again : tie.Need-loop-again Inv-loop μ-loop
+loop-again c =
+    let n = c .before in
+    let i = turn (first (second (third n))) in
+    let x = child (third n) in
+    let y = next n in
+    let F : Fits (T i) (U i) (R i) = record {
+      under = under (first (second (third n)));
+      fact = fact (second (third n));
+      child = x .0;
+      next = y .0;
+      light = let e = y .1 in let l = y .2 in omega arith;
+    } in
+    added-more _ _ _ _ _ _ _ _ (i .before .loop .inv) (i .loop-test .taken) F (x .1) (x .2) (y .1) (c .weight-of .ensures .0) (c .weight-of .ensures .1)
 
-loop-again : tie.Need-loop-again Inv-loop2 μ-loop2 Inv-loop μ-loop
-loop-again c = leave _ _ _ _ _ _ (c .before .loop2 .inv) (c .loop2-test .left)
-
-sub-if5 : tie.Need-sub-if5 Inv-loop2 μ-loop2 Inv-loop μ-loop
-sub-if5 c = omega arith
-
-returns-5 : tie.Need-returns-5 Inv-loop2 μ-loop2 Inv-loop μ-loop
-returns-5 c =
-    let s = c .before .before .before .before in
-    finish _ _ _ _ (s .pre .0 .0) (s .pre .1 .0) (s .pre .1 .1) (c .before .before .loop .inv) (c .before .loop-test .left) (c .if5 .taken)
-
-returns-6 : tie.Need-returns-6 Inv-loop2 μ-loop2 Inv-loop μ-loop
-returns-6 c S =
-    let s = c .before .before .before .before in
-    few _ _ _ _ (s .pre .0 .0) (c .before .before .loop .inv) (c .before .loop-test .left) (c .if5 .left) (chained-linked _ _ (S .0))
+returns-6 : tie.Need-returns-6 Inv-loop μ-loop
+returns-6 c =
+    let s = c .before .before .before .before .before .before .before in
+    told _ _ _ _ (s .pre .0 .0) (s .pre .0 .1) (s .pre .1 .0) (s .pre .1 .1) _ (c .before .loop .inv) (c .loop-test .left)
 
 pub are-chained-records-spec : {M : Type 1} → statement M
 are-chained-records-spec =
     tie.close
     (tie.spec
-    Inv-loop2
-    μ-loop2
     Inv-loop
     μ-loop
-    loop-holds
-    field-requires
-    field-requires-2
-    loop2-holds
-    is-kid-requires
+    child-link-requires
+    enum-known-first
+    enum-told
     returns
-    field-requires-3
-    field-requires-4
-    cast-k
+    loop-holds
+    is-under-requires
     returns-2
-    field-requires-5
-    returns-3
     is-record-requires
+    returns-3
+    child-link-requires-2
+    enum-known-child
+    enum-told-2
     returns-4
-    add-low
-    add-met
-    loop2-less
-    loop2-again
-    add-p
+    next-link-requires
+    enum-known-next
+    enum-told-3
+    returns-5
+    add-links
+    add-links-2
+    weight-of-requires
+    add-records
+    add-r
     loop-less
     loop-again
-    sub-if5
-    returns-5
     returns-6)
