@@ -2,6 +2,7 @@
 use Prim.Native.Nat.{ℕ, zero, suc, _+_, _-_, _≤_, _<_}
 use mathlib.Core.Path.{_≡_, refl, sym, ap, _∙_}
 use mathlib.Core.Bool.{Bool, true, false, cond, _&&_}
+use mathlib.Core.Logic.{_⊎_, inl, inr}
 use mathlib.Core.List.{List, _∷_}
 use native.Mathlib.Omega.{arith}
 use lib.Dec.{eqb, leb}
@@ -16,7 +17,9 @@ use Rattle.paths.proofs.Tail.{Tail, More, tail-more, tail-none, tail-start, tai
 use Rattle.list.specs.Seen.{seenOnes, lastFrom, lastKey, lastWord}
 use Rattle.list.specs.Walk.{sumOf, allOf, spendBelow, shallowBelow}
 use Rattle.list.proofs.ChildrenLaws.{seen-yes, seen-no}
-use Rattle.budget.specs.Answer.{leaves, budgetBelow, budgetFrom}
+use Rattle.facts.proofs.Laws.{lt-or-ge}
+use Rattle.budget.specs.Answer.{leaves, budgetBelow, kidsLeave, budgetFrom, Paid}
+use Rattle.budget.specs.declared.Below.{Below}
 use Rattle.budget.specs.declared.Budget.the-variants.{Left, Over}
 use Rattle.budget.proofs.LevelLaws.{spend-is, shallow-is}
 
@@ -137,7 +140,7 @@ module _ (t : List ℕ) (u r depth left : ℕ) (r1 : 1 ≤ r) (ru : r ≤ u) whe
 
     module _ (h : depth ≤ depthMax) where
       -- else the cost of the children is taken, and then the record's own
-      kids-say : budgetBelow (nodes t u) r depth left ≡ leaves (kids-pass t u depth (kidsOf t u r) && true) (kids-cost t u (kidsOf t u r) + suc (lastWord (nodes t u) r)) left
+      kids-say : budgetBelow (nodes t u) r depth left ≡ leaves (kids-pass t u depth (kidsIn (nodes t u) r) && true) (kids-cost t u (kidsIn (nodes t u) r) + suc (lastWord (nodes t u) r)) left
       unfolding budgetBelow
       kids-say =
           let a : shallowBelow (length (nodes t u)) (nodes t u) depth r ≡ kids-pass t u depth (kidsIn (nodes t u) r) && true =
@@ -146,36 +149,58 @@ module _ (t : List ℕ) (u r depth left : ℕ) (r1 : 1 ≤ r) (ru : r ≤ u) whe
           spend-is (nodes t u) r r1 rl ∙ rw seen-one refl in
           let d : suc (lastWord (nodes t u) r) + kids-cost t u (kidsIn (nodes t u) r) ≡ kids-cost t u (kidsIn (nodes t u) r) + suc (lastWord (nodes t u) r) = omega arith in
           (λ i. leaves (a i) ((b ∙ d) i) left)
-          ∙ ap (λ (ms : List ℕ). leaves (kids-pass t u depth ms && true) (kids-cost t u ms + suc (lastWord (nodes t u) r)) left) (kids-nodes t u r)
+
+      -- the record's own cost is taken off what the children leave
+      own-of : (w x : ℕ) → w ≡ lastWord (nodes t u) r → budgetFrom x ≡ kidsLeave (nodes t u) r depth left → budgetFrom (x - (w + 1)) ≡ budgetBelow (nodes t u) r depth left
+      unfolding kidsLeave
+      own-of w zero q k =
+          from-none (zero - (w + 1)) (omega arith)
+          ∙ sym (kids-say ∙ leaves-over true (suc (lastWord (nodes t u) r)) left (kids-pass t u depth (kidsIn (nodes t u) r)) (kids-cost t u (kidsIn (nodes t u) r)) (sym k))
+      own-of w (suc rest) q k = go (lt-or-ge w rest)
+        where
+          own : budgetBelow (nodes t u) r depth left ≡ leaves true (suc w) rest
+          own =
+              kids-say
+              ∙ leaves-left true (suc (lastWord (nodes t u) r)) left (kids-pass t u depth (kidsIn (nodes t u) r)) (kids-cost t u (kidsIn (nodes t u) r)) rest (sym k)
+              ∙ ap (λ (y : ℕ). leaves true (suc y) rest) (sym q)
+
+          go : (w < rest) ⊎ (rest ≤ w) → budgetFrom (suc rest - (w + 1)) ≡ budgetBelow (nodes t u) r depth left
+          go (inl l) =
+              let x : suc rest - (w + 1) - 1 ≡ rest - suc w = omega arith in
+              from-some (suc rest - (w + 1)) (λ y. omega arith) ∙ ap Left x ∙ sym (own ∙ leaves-some (suc w) rest (omega arith))
+          go (inr l) = from-none (suc rest - (w + 1)) (omega arith) ∙ sym (own ∙ leaves-none (suc w) rest (omega arith))
+
+      pub pay-own : (b : Below) → Paid (nodes t u) r depth left b → (w x : ℕ) → w ≡ lastWord (nodes t u) r → x ≡ b .left - (w + 1)
+          → (budgetFrom x ≡ budgetBelow (nodes t u) r depth left) × (x ≤ left + 1)
+      pay-own b P w x q e = (ap budgetFrom e ∙ own-of w (b .left) q (P .is), let m = P .most in omega arith)
 
       -- the children are over
-      pub pay-over : leaves (kids-pass t u depth (kidsOf t u r)) (kids-cost t u (kidsOf t u r)) left ≡ Over → (Over ≡ budgetBelow (nodes t u) r depth left) × (0 ≤ left + 1)
-      pay-over q =
-          (sym (kids-say ∙ leaves-over true (suc (lastWord (nodes t u) r)) left (kids-pass t u depth (kidsOf t u r)) (kids-cost t u (kidsOf t u r)) q), omega arith)
-
-      -- the walk of the children is done
-      module _ (rest last c : ℕ) (I : Paying t u r depth left rest last c) (z : c ≡ 0) (w : ℕ) (q : w ≡ lastWord (nodes t u) r) where
-        own : budgetBelow (nodes t u) r depth left ≡ leaves true (suc w) rest
-        own =
-            let x : rest - 0 ≡ rest = omega arith in
-            kids-say
-            ∙ leaves-left true (suc (lastWord (nodes t u) r)) left (kids-pass t u depth (kidsOf t u r)) (kids-cost t u (kidsOf t u r)) rest
-            (sym (I .same) ∙ (rw (tail-none t u r c (I .ns) (I .tail) z) (leaves-some 0 rest (omega arith))) ∙ ap Left x)
-            ∙ ap (λ (y : ℕ). leaves true (suc y) rest) (sym q)
-
-        pub pay-own-over : rest ≤ w → (Over ≡ budgetBelow (nodes t u) r depth left) × (0 ≤ left + 1)
-        pay-own-over k = (sym (own ∙ leaves-none (suc w) rest (omega arith)), omega arith)
-
-        pub pay-own : w < rest → (budgetFrom (rest - w) ≡ budgetBelow (nodes t u) r depth left) × (rest - w ≤ left + 1)
-        pay-own k =
-            let m = I .most in
-            let x : rest - w - 1 ≡ rest - suc w = omega arith in
-            (from-some (rest - w) (λ y. omega arith) ∙ ap Left x ∙ sym (own ∙ leaves-some (suc w) rest (omega arith)), omega arith)
+      pub pay-over : (b : Below) → Paid (nodes t u) r depth left b → b .left ≡ 0 → (Over ≡ budgetBelow (nodes t u) r depth left) × (0 ≤ left + 1)
+      pay-over b P z =
+          let n : 0 - (lastWord (nodes t u) r + 1) ≡ 0 = omega arith in
+          (sym (from-none (0 - (lastWord (nodes t u) r + 1)) n) ∙ own-of (lastWord (nodes t u) r) 0 refl (ap budgetFrom (sym z) ∙ P .is), omega arith)
 
 module _ (t : List ℕ) (u r depth left rest last c : ℕ) (I : Paying t u r depth left rest last c) where
   pub paying-last : c ≡ 0 → last ≡ lastKey (nodes t u) r
   unfolding seenOnes lastFrom
   paying-last z = rw (tail-none t u r c (I .ns) (I .tail) z) at (I .key)
+
+  -- what all of the chain leaves
+  all-leave : leaves (kids-pass t u depth (kidsOf t u r)) (kids-cost t u (kidsOf t u r)) left ≡ kidsLeave (nodes t u) r depth left
+  unfolding kidsLeave
+  all-leave = ap (λ (ms : List ℕ). leaves (kids-pass t u depth ms) (kids-cost t u ms) left) (sym (kids-nodes t u r))
+
+  -- the walk of the children is done
+  pub paying-done : (b : Below) → b .left ≡ rest + 1 → b .«last_key» ≡ last → c ≡ 0 → Paid (nodes t u) r depth left b
+  paying-done b e q z =
+      let x : rest + 1 - 1 ≡ rest - 0 = omega arith in
+      record {
+        is =
+            ap budgetFrom e ∙ from-some (rest + 1) (λ y. omega arith) ∙ ap Left x ∙ sym (leaves-some 0 rest (omega arith))
+            ∙ (rw (tail-none t u r c (I .ns) (I .tail) z) at (I .same)) ∙ all-leave;
+        most = let m = I .most in omega arith;
+        last = λ _. q ∙ paying-last z;
+      }
 
   module _ (n : c ≡ 0 → ⊥) (x : ℕ) (e : budgetFrom x ≡ budgetBelow (nodes t u) c (depth + 1) rest) where
     split : More t u r c (I .ns)
@@ -191,10 +216,16 @@ module _ (t : List ℕ) (u r depth left rest last c : ℕ) (I : Paying t u r dep
         ≡ leaves (kids-pass t u depth (kidsOf t u r)) (kids-cost t u (kidsOf t u r)) left
     whole = ap (λ (ms : List ℕ). leaves (kids-pass t u depth ms) (kids-cost t u ms) rest) (sym (split .is)) ∙ I .same
 
-    pub paying-over : x ≡ 0 → leaves (kids-pass t u depth (kidsOf t u r)) (kids-cost t u (kidsOf t u r)) left ≡ Over
-    paying-over w =
-        sym whole ∙ leaves-over (kids-pass t u depth (split .rest)) (kids-cost t u (split .rest)) rest
-        (shallowBelow (length (nodes t u)) (nodes t u) (suc depth) c) (spendBelow (length (nodes t u)) (nodes t u) c) (first ∙ from-none x w)
+    pub paying-over : (b : Below) → b .left ≡ 0 → x ≡ 0 → Paid (nodes t u) r depth left b
+    paying-over b e w = record {
+      is =
+          from-none (b .left) e
+          ∙ sym (leaves-over (kids-pass t u depth (split .rest)) (kids-cost t u (split .rest)) rest
+          (shallowBelow (length (nodes t u)) (nodes t u) (suc depth) c) (spendBelow (length (nodes t u)) (nodes t u) c) (first ∙ from-none x w))
+          ∙ whole ∙ all-leave;
+      most = omega arith;
+      last = λ n. absurd (n e);
+    }
 
     module _ (some : x ≡ 0 → ⊥) (small : x ≤ rest + 1) (rest′ last′ c′ : ℕ) (p : rest′ ≡ x - 1) (y : c′ ≡ nextOf t c) (v : ℕ) (s : v ≡ seenOf t c) where
       after : lastFrom (nodes t u) last′ (seenOnes (nodes t u) (split .rest)) ≡ lastKey (nodes t u) r → Paying t u r depth left rest′ last′ c′

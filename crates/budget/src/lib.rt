@@ -8,3 +8,15 @@ pub enum Budget {
     Left(u32),
     Over,
 }
+
+// The answer, and unless the facts are over the root's last word, which the walk comes to anyway.
+pub struct Spent {
+    pub budget: Budget,
+    pub last_word: u32,
+}
+
+// What a record's children leave, as one number: one more than what is left, 0 where they are over; and the key of the last seen one.
+pub struct Below {
+    pub left: u64,
+    pub last_key: u32,
+}

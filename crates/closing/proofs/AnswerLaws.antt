@@ -1,26 +1,23 @@
 -- None, over or granted: what the answer and the type slice are in each case. Assumes nothing.
 use Prim.Native.Nat.{ℕ, suc, _+_, _-_, _*_, _≤_}
 use mathlib.Core.Path.{_≡_, refl, sym, ap, _∙_}
-use mathlib.Core.Bool.{Bool, true, false, cond, and-eq-true-iff}
+use mathlib.Core.Bool.{Bool, true, false, true≢false, cond, and-eq-true-iff}
 use mathlib.Core.List.{List, _++_}
 use native.Mathlib.Omega.{arith}
 use native.Mathlib.Nat.{zero-add}
 use native.Mathlib.Numerals.{add-one}
-use lib.Dec.{eqb, leb}
+use lib.Dec.{leb}
 use lib.ListN.{length, drop}
 use lib.Seq.{sets, sets-eq}
-use borrow.Author.Tests.{eq-eqb, ne-eqb, leb-true}
+use borrow.Author.Tests.{leb-true}
 use Rattle.limits.specs.Limits.{codesMax, wordBytes}
 use Rattle.types.specs.Codes.{allCodes}
 use Rattle.types.proofs.Sizes.{count-codes}
 use Rattle.facts.specs.Formed.{Formed}
 use Rattle.facts.specs.State.{Node}
 use Rattle.list.specs.Seen.{childrenIn, isEmpty, lastWord}
-use Rattle.list.specs.Looks.{Looked}
 use Rattle.list.specs.Budget.{shallow, spend, fitsBudget}
 use Rattle.list.specs.Types.{wordTypes, listOf}
-use Rattle.list.specs.declared.Children.{Children}
-use Rattle.list.proofs.ChildrenLaws.{empty-is}
 use Rattle.budget.specs.declared.Budget.{Budget}
 use Rattle.budget.specs.declared.Budget.the-variants.{Left, Over}
 use Rattle.budget.specs.Answer.{budgetOf}
@@ -37,15 +34,15 @@ abbrev isLeft : Budget → Bool
 isLeft (Left n) = true
 isLeft Over = false
 
-module _ (s : List Node) (kids : Children) (types : List ℕ) (L : Looked s 1 kids) where
-  childless : isEmpty (childrenIn s 1) ≡ eqb (kids .count) 0
-  childless = empty-is (childrenIn s 1) ∙ ap (λ (n : ℕ). eqb n 0) (sym (L .count))
-
-  pub answer-none : kids .count ≡ 0 → (none ≡ answerOf s) × (types ≡ typesAfter s types)
+module _ (s : List Node) (bare : Bool) (types : List ℕ) (L : bare ≡ isEmpty (childrenIn s 1)) where
+  pub answer-none : bare ≡ true → (none ≡ answerOf s) × (types ≡ typesAfter s types)
   unfolding answerOf typesAfter
-  answer-none z = rw (childless, eq-eqb (kids .count) 0 z) (refl, refl)
+  answer-none z = rw (sym L ∙ z) (refl, refl)
 
-  module _ (n : kids .count ≡ 0 → ⊥) (b : Budget) (e : b ≡ budgetOf s) where
+  module _ (n : bare ≡ false) (b : Budget) (e : b ≡ budgetOf s) where
+    childless : isEmpty (childrenIn s 1) ≡ false
+    childless = sym L ∙ n
+
     fits-is : isLeft b ≡ fitsBudget s
     unfolding budgetOf
     fits-is = ap isLeft e ∙ go (fitsBudget s)
@@ -58,9 +55,13 @@ module _ (s : List Node) (kids : Children) (types : List ℕ) (L : Looked s 1 ki
     unfolding answerOf typesAfter
     answer-over z =
         let f : fitsBudget s ≡ false = sym fits-is ∙ ap isLeft z in
-        rw (childless, ne-eqb (kids .count) 0 n, f) (refl, refl)
+        rw (childless, f) (refl, refl)
 
     module _ (left : ℕ) (z : b ≡ Left left) where
+      -- not over, so that the last word is told
+      pub not-over : b ≡ Over → ⊥
+      not-over o = let x : true ≡ false = ap isLeft (sym z ∙ o) in true≢false x
+
       fits : fitsBudget s ≡ true
       fits = sym fits-is ∙ ap isLeft z
 
@@ -80,8 +81,8 @@ module _ (s : List Node) (kids : Children) (types : List ℕ) (L : Looked s 1 ki
           let most = list-codes s F in
           let m = spend-most in
           let room : 0 + length (allCodes (listOf s)) ≤ length types = omega arith in (
-            rw (childless, ne-eqb (kids .count) 0 n, fits, ← left-is, ← e) refl,
-            rw (childless, ne-eqb (kids .count) 0 n, fits)
+            rw (childless, fits, ← left-is, ← e) refl,
+            rw (childless, fits)
                 (t ∙ ap (λ (k : ℕ). sets types 0 (allCodes (wordTypes s 1 0 k))) e ∙ sets-eq (allCodes (listOf s)) types 0 room
                 ∙ ap (λ (k : ℕ). allCodes (listOf s) ++ drop k types) (zero-add (length (allCodes (listOf s))))),
           )

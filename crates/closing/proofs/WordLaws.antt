@@ -24,9 +24,6 @@ use Rattle.paths.specs.Shape.{Shaped}
 use Rattle.paths.proofs.Tail.{Tail, More, tail-more, tail-none, tail-start}
 use Rattle.kinds.specs.Kinds.{dynamicBelow, hasDynamic}
 use Rattle.list.specs.Seen.{seenOnes, childrenIn, isEmpty}
-use Rattle.list.specs.Looks.{Looked}
-use Rattle.list.specs.declared.Children.{Children}
-use Rattle.list.proofs.ChildrenLaws.{empty-is}
 use Rattle.closing.specs.declared.Packed.{Packed}
 use Rattle.closing.specs.declared.Packed.the-variants.{Word}
 use Rattle.closing.specs.declared.Dynamics.{Dynamics}
@@ -141,11 +138,11 @@ module _ (t : List ℕ) (u N : ℕ) (S : Shaped t u N) where
         go (suc (suc x)) l f q = absurd (omega arith)
 
 -- an array with no child
-pub bare-is : (t : List ℕ) (u r k : ℕ) (kids : Children) → 1 ≤ r → r ≤ u → k ≡ kindOf t r → Looked (nodes t u) r kids
-    → (eqb k kindArray && eqb (kids .count) 0) ≡ (eqb (nodeOf (nodes t u) r .kind) kindArray && isEmpty (childrenIn (nodes t u) r))
-bare-is t u r k kids r1 ru e L =
+pub bare-is : (t : List ℕ) (u r k : ℕ) (bare : Bool) → 1 ≤ r → r ≤ u → k ≡ kindOf t r → bare ≡ isEmpty (childrenIn (nodes t u) r)
+    → (eqb k kindArray && bare) ≡ (eqb (nodeOf (nodes t u) r .kind) kindArray && isEmpty (childrenIn (nodes t u) r))
+bare-is t u r k bare r1 ru e q =
     let f : nodeOf (nodes t u) r .kind ≡ k = ap (λ (m : Node). m .kind) (nodes-get t u r r1 ru) ∙ sym e in
-    sym (rw (f, empty-is (childrenIn (nodes t u) r), ← (L .count)) refl)
+    sym (rw (f, ← q) refl)
 
 -- a test that was turned round
 pub was-false : (b : Bool) → not b ≡ true → b ≡ false

@@ -11,8 +11,7 @@ use crate::Granted;
 use budget::Budget;
 use budget::fits_type_budget;
 use limits::WORD_BYTES;
-use list::last_word;
-use list::seen_children;
+use list::is_childless;
 use type_walk::write_words;
 
 // The answer for the facts of a sound table; the list's codes are written where it is granted.
@@ -22,14 +21,15 @@ pub fn answer(table: &[u32], n: u32, used: u32, types: &mut [u16]) -> Closing
     ensures { λ a. ⌜ verdictOf a ≡ answerOf (nodes (now (table .entry)) used) ⌝ }
     ensures { λ _. ⌜ now (types .exit) ≡ typesAfter (nodes (now (table .entry)) used) (now (types .entry)) ⌝ }
 {
-    let kids = seen_children(table, n, used, 1);
-    if kids.count == 0 {
+    if is_childless(table, n, used, 1) {
         return Closing::Nothing;
     }
-    let Budget::Left(left) = fits_type_budget(table, n, used) else {
+    let spent = fits_type_budget(table, n, used);
+    let budget = spent.budget;
+    let Budget::Left(left) = budget else {
         return Closing::Over;
     };
-    let entries = last_word(table, n, used, 1, kids.last_key) + 1;
+    let entries = spent.last_word + 1;
     write_words(table, n, used, 1, 0, entries, types, 0);
     Closing::Granted(Granted {
         entries,

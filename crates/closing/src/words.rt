@@ -22,7 +22,7 @@ use limits::KIND_ARRAY;
 use limits::fields::CHILD;
 use limits::fields::KIND;
 use limits::fields::NEXT;
-use list::seen_children;
+use list::is_childless;
 
 // What the packed word says, if there is one.
 fn packed_words(code: &[u8], start: u32, packed: Packed) -> Words
@@ -72,8 +72,8 @@ fn is_bare_array(table: &[u32], n: u32, used: u32, r: u32) -> bool
     ensures { λ b. ⌜ b ≡ eqb (nodeOf (nodes (now (table .entry)) used) r .kind) kindArray && isEmpty (childrenIn (nodes (now (table .entry)) used) r) ⌝ }
 {
     let array = field(table, r, KIND) == KIND_ARRAY;
-    let kids = seen_children(table, n, used, r);
-    array & (kids.count == 0)
+    let childless = is_childless(table, n, used, r);
+    array & childless
 }
 
 // No more than the Rust fills.

@@ -1,7 +1,8 @@
 -- Loops over zeros: one that stores zero in one place after the other, and one that joins all numbers by OR to see whether they are zero. Assumes nothing.
-use Prim.Native.Nat.{ℕ, _+_, _≤_, _<_}
+use Prim.Native.Nat.{ℕ, _+_, _≤_, _<_, max}
 use mathlib.Core.Path.{_≡_, refl, sym, _∙_}
 use mathlib.Core.Bool.{Bool, true, false}
+use mathlib.Core.Logic.{⊎-elim}
 use mathlib.Core.List.{List}
 use native.Mathlib.Decide.{ℕ-discrete}
 use native.Mathlib.Omega.{arith}
@@ -10,8 +11,9 @@ use lib.Seq.{ext-getD, getD-set-same, getD-set-other}
 use lib.Bits.{bitOr, or-add-and, and-le-r, or-comm}
 use lib.Dec.{eqb}
 use borrow.Author.Tests.{eqb-true, eqb-false}
-use Rattle.facts.specs.Table.{ZeroFrom}
+use Rattle.facts.specs.Table.{ZeroBetween, ZeroFrom}
 use Rattle.facts.specs.Sound.{Tells}
+use Rattle.facts.proofs.Laws.{lt-or-ge}
 use Rattle.facts.proofs.Scan.{Passed, passed-none, passed-more}
 
 -- t is as long as s was, and zero before i
@@ -70,9 +72,21 @@ joined-more t start i any J l = record {
   zero = λ P. zeros-or any (getD t i 0) (J .zero (record { low = J .low; all = λ j a h. P .all j a (omega arith) })) (P .all i (J .low) (omega arith) l);
 }
 
-pub joined-all : (t : List ℕ) (start i any : ℕ) → Joined t start i any → length t ≤ i → Tells (eqb any 0) (ZeroFrom t start)
-joined-all t start i any J m = go (eqb any 0) refl
+pub joined-all : (t : List ℕ) (start i any end : ℕ) → Joined t start i any → i ≤ max start end → end ≤ i → end ≤ length t → Tells (eqb any 0) (ZeroBetween t start end)
+joined-all t start i any end J h m w = go (eqb any 0) refl
   where
-    go : (b : Bool) → eqb any 0 ≡ b → Tells b (ZeroFrom t start)
-    go true e = λ j a l. J .zeros (eqb-true any 0 e) .all j a (omega arith) l
-    go false e = λ Z. eqb-false any 0 e (J .zero (record { low = J .low; all = λ j a h. Z j a }))
+    go : (b : Bool) → eqb any 0 ≡ b → Tells b (ZeroBetween t start end)
+    go true e = λ j a l. J .zeros (eqb-true any 0 e) .all j a (omega arith) (omega arith)
+    go false e = λ Z. eqb-false any 0 e (J .zero (record { low = J .low; all = λ j a k _. Z j a (omega arith) }))
+
+-- zero up to a place and from there on
+pub zero-both : (t : List ℕ) (start line : ℕ) → ZeroBetween t start line → ZeroBetween t line (length t) → ZeroFrom t start
+zero-both t start line A B i h l = ⊎-elim (λ k. A i h k) (λ k. B i k l) (lt-or-ge i line)
+
+pub zero-first : (t : List ℕ) (start line : ℕ) → line ≤ length t → ZeroFrom t start → ZeroBetween t start line
+zero-first t start line w Z i h l = Z i h (omega arith)
+
+-- the second part alone decides, once the first is zero
+pub zero-rest : (t : List ℕ) (start line : ℕ) (b : Bool) → start ≤ line → ZeroBetween t start line → Tells b (ZeroBetween t line (length t)) → Tells b (ZeroFrom t start)
+zero-rest t start line true s A B = zero-both t start line A B
+zero-rest t start line false s A B = λ Z. B (λ i h l. Z i (omega arith) l)

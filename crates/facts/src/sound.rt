@@ -1,23 +1,52 @@
 // Question 2.
 ghost use lib.ListN.{length};
-ghost use Rattle.facts.specs.Table.{ZeroFrom};
+ghost use Prim.Native.Nat.{_≤_};
+ghost use Rattle.facts.specs.Table.{ZeroBetween, ZeroFrom};
 ghost use Rattle.facts.specs.Count.{Counted};
 ghost use Rattle.facts.specs.Sound.{Sound, Tells};
 use crate::fact::is_root;
 use crate::links::are_chained_records;
 use limits::RECORD_WIDTH;
 
-// Is every number from that place on zero? No branch in the loop, so that the compiler takes several numbers at a time.
-fn is_zero_from(table: &[u32], start: usize) -> bool
-    ensures { λ b. ⌜ Tells b (ZeroFrom (now (table .entry)) start) ⌝ }
+// How many numbers a line of the processor's cache has.
+const LINE: usize = 16;
+
+// Is every number from one place to before another zero? No branch in the loop, so that the compiler takes several numbers at a time.
+fn is_zero_between(table: &[u32], start: usize, end: usize) -> bool
+    requires { ⌜ end ≤ length (now table) ⌝ }
+    ensures { λ b. ⌜ Tells b (ZeroBetween (now (table .entry)) start end) ⌝ }
 {
     let mut any: u32 = 0;
     let mut i = start;
-    while i < table.len() {
+    while i < end {
         any = any | table[i];
         i += 1;
     }
     any == 0
+}
+
+// Where the next line begins, or the end.
+fn next_line(start: usize, end: usize) -> usize
+    requires { ⌜ start ≤ end ⌝ }
+    ensures { λ line. ⌜ (start ≤ line) × (line ≤ end) ⌝ }
+{
+    let step = LINE - start % LINE;
+    if end - start < step {
+        return end;
+    }
+    start + step
+}
+
+// Is every number from that place on zero? Up to the next line first, so that the loads of the long rest lie within lines.
+fn is_zero_from(table: &[u32], start: usize) -> bool
+    requires { ⌜ start ≤ length (now table) ⌝ }
+    ensures { λ b. ⌜ Tells b (ZeroFrom (now (table .entry)) start) ⌝ }
+{
+    let line = next_line(start, table.len());
+    if !is_zero_between(table, start, line) {
+        return false;
+    }
+    is_zero_between(table, line, table.len())
 }
 
 // Is a table of n records, as question 1 counts them, sound with that many used? It may hold any numbers; the time is linear in its length.

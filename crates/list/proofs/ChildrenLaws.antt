@@ -159,3 +159,16 @@ unfolding kindFrom
 lone-is s [] = refl
 lone-is s (m ∷ []) = refl
 lone-is s (m ∷ q ∷ ms) = sym (rw (ne-eqb (suc (suc (length ms))) 1 (λ e. omega arith)) refl)
+
+-- the first seen child decides
+module _ (t : List ℕ) (u r c : ℕ) (I : Looking t u r 0 0 0 c) where
+  pub childless-no : (n : c ≡ 0 → ⊥) (v : ℕ) → v ≡ seenOf t c → v ≡ 1 → false ≡ isEmpty (childrenIn (nodes t u) r)
+  childless-no n v e o =
+      let J = looking-seen t u r 0 0 0 c I n v 1 (keyOf t c) (kindOf t c) (nextOf t c) e o (omega arith) refl refl refl in
+      let k = J .counted in
+      sym (empty-is (childrenIn (nodes t u) r) ∙ ne-eqb (length (childrenIn (nodes t u) r)) 0 (λ z. omega arith))
+
+  pub childless-yes : c ≡ 0 → true ≡ isEmpty (childrenIn (nodes t u) r)
+  childless-yes z =
+      let D = looking-done t u r 0 0 0 c I (record { count = 0; «last_key» = 0; «last_kind» = 0 }) refl refl refl z in
+      sym (empty-is (childrenIn (nodes t u) r) ∙ eq-eqb (length (childrenIn (nodes t u) r)) 0 (sym (D .count)))

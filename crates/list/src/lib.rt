@@ -1,6 +1,7 @@
 // What the closing's walks look at: a fact's seen children. specs/ has the budget and the list, as definitions over the facts.
 mod seen;
 
+pub use seen::is_childless;
 pub use seen::last_word;
 pub use seen::seen_children;
 

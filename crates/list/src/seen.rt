@@ -3,7 +3,7 @@ ghost use mathlib.Core.Path.{_≡_};
 ghost use Prim.Native.Nat.{_≤_};
 ghost use Rattle.facts.specs.State.{nodes};
 ghost use Rattle.paths.specs.Shape.{Shaped};
-ghost use Rattle.list.specs.Seen.{lastKey, lastWord};
+ghost use Rattle.list.specs.Seen.{childrenIn, isEmpty, lastKey, lastWord};
 ghost use Rattle.list.specs.Looks.{Looked};
 use crate::Children;
 use facts::field;
@@ -47,6 +47,22 @@ pub fn seen_children(table: &[u32], n: u32, used: u32, r: u32) -> Children
         last_key,
         last_kind,
     }
+}
+
+// Has a fact no seen child? The walk ends with the first.
+pub fn is_childless(table: &[u32], n: u32, used: u32, r: u32) -> bool
+    requires { ⌜ Shaped (now table) used n ⌝ }
+    requires { ⌜ (1 ≤ r) × (r ≤ used) ⌝ }
+    ensures { λ b. ⌜ b ≡ isEmpty (childrenIn (nodes (now (table .entry)) used) r) ⌝ }
+{
+    let mut child = field(table, r, CHILD);
+    while child != 0 {
+        if field(table, child, SEEN) == 1 {
+            return false;
+        }
+        child = field(table, child, NEXT);
+    }
+    true
 }
 
 // The last word of a fact whose seen children end at this key.

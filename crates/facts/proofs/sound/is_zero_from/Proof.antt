@@ -1,27 +1,23 @@
--- `facts::sound::is_zero_from`: `any` is zero just where the numbers passed are. Assumes nothing.
-use Prim.Native.Nat.{_-_}
+-- `facts::sound::is_zero_from`: zero up to the next line and from there on. Assumes nothing.
+use denote.Ref.{now}
 use borrow.Author.Needs.{needs}
-use lib.ListN.{length}
-use Rattle.facts.proofs.Zeros.{Joined, joined-none, joined-more, joined-all}
+use borrow.Author.Tests.{not-true, not-false}
+use Rattle.facts.proofs.Zeros.{zero-first, zero-rest}
 use Rattle.facts.proofs.sound.is_zero_from.Statement.{statement}
 use Rattle.facts.proofs.sound.is_zero_from.Tie as tie
 
-abbrev Inv-loop : tie.InvT-loop
-Inv-loop table start any₀ i₀ any i = Joined table start i any
+returns : tie.Need-returns
+returns c Z =
+    let r = c .before .is-zero-between in
+    (rw (not-true (r .result) (c .if1 .taken)) at (r .ensures)) (zero-first (now (c .before .before .before .before .args .table)) _ _ (c .before .before .next-line .ensures .1) Z)
 
-abbrev μ-loop : tie.MeasureT-loop
-μ-loop table start any₀ i₀ any i = length table - i
+returns-2 : tie.Need-returns-2
+returns-2 c =
+    let e = c .before in
+    let r = e .before .is-zero-between in
+    zero-rest (now (e .before .before .before .before .args .table)) _ _ (c .is-zero-between2 .result) (e .before .before .next-line .ensures .0) (rw (not-false (r .result) (e .if1 .left)) at (r .ensures)) (c .is-zero-between2 .ensures)
 
 pub is-zero-from-spec : {M : Type 1} → statement M
 is-zero-from-spec =
     tie.close
-    (tie.spec
-    Inv-loop
-    μ-loop
-    (λ c. joined-none _ _)
-    (λ c. search needs)
-    (λ c. search needs)
-    (λ c. search needs)
-    (λ c. search needs)
-    (λ c. search (joined-more, needs))
-    (λ c. search (joined-all, needs)))
+    (tie.spec (λ c κs. search needs) (λ c κs. search needs) returns (λ c κs. search needs) returns-2)
