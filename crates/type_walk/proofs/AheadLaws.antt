@@ -27,7 +27,7 @@ use Rattle.list.specs.Types.{nameHolds, endKey}
 use Rattle.list.specs.declared.Children.{Children}
 use Rattle.list.proofs.ChildrenLaws.{empty-is, lone-is}
 use Rattle.type_walk.specs.declared.Plan.{Plan}
-use Rattle.type_walk.specs.Plan.{plan, wordCode, tupleCode, openPlan, kindPlan, planOf, wordPlan}
+use Rattle.type_walk.specs.Plan.{plan, wordCode, tupleCode, openPlan, kindPlan, planOf}
 use Rattle.type_walk.proofs.PlanLaws.{count-most}
 
 pub tuple-some : (n : ℕ) → 2 ≤ n → code.tuple + n ≡ tupleCode n
@@ -156,11 +156,3 @@ module _ (t : List ℕ) (u r : ℕ) (r1 : 1 ≤ r) (ru : r ≤ u) where
       → p ≡ kindPlan (nodes t u) r → p ≡ planOf (nodes t u) r
   unfolding planOf
   plan-unnamed kids b p L e h q = q ∙ sym (rw (empty-is (childrenIn (nodes t u) r), ← (L .count), ← e, h) refl)
-
-pub word-none : (s : List Node) (c : ℕ) → c ≡ 0 → plan wordCode 0 0 0 ≡ wordPlan s c
-unfolding wordPlan
-word-none s c z = sym (rw (eq-eqb c 0 z) refl)
-
-pub word-some : (s : List Node) (c : ℕ) (p : Plan) → (c ≡ 0 → ⊥) → p ≡ planOf s c → p ≡ wordPlan s c
-unfolding wordPlan
-word-some s c p n e = e ∙ sym (rw (ne-eqb c 0 n) refl)

@@ -1,11 +1,11 @@
 -- How large the codes ahead are. Assumes nothing.
-use Prim.Native.Nat.{ℕ, zero, suc, _+_, _≤_}
+use Prim.Native.Nat.{ℕ, suc, _+_, _≤_}
 use mathlib.Core.Path.{_≡_, refl}
 use mathlib.Core.Bool.{Bool, true, false, cond, _&&_, _||_}
 use mathlib.Core.List.{List}
 use native.Mathlib.Omega.{arith}
 use lib.Dec.{eqb, leb}
-use borrow.Author.Tests.{eqb-true, ne-eqb, eq-eqb}
+use borrow.Author.Tests.{eqb-true}
 use Rattle.limits.specs.Codes as code
 use Rattle.limits.specs.Limits.{wordBytes, kindDynamic, kindArray}
 use Rattle.names.specs.Elementary.{isName}
@@ -16,7 +16,7 @@ use Rattle.facts.proofs.Whole.{fact-parts}
 use Rattle.list.specs.Seen.{childrenIn, isEmpty, isLonePlain, lastWord}
 use Rattle.list.specs.Types.{nameHolds, endKey}
 use Rattle.type_walk.specs.declared.Plan.{Plan}
-use Rattle.type_walk.specs.Plan.{plan, wordCode, tupleCode, openPlan, kindPlan, planOf, wordPlan}
+use Rattle.type_walk.specs.Plan.{plan, wordCode, tupleCode, openPlan, kindPlan, planOf}
 
 -- the codes are no larger than a tuple's of the words that follow, which begin with the first or the second
 pub record Bounded (p : Plan) : Type 0 where
@@ -54,20 +54,10 @@ module _ (s : List Node) where
       (either (eqb kind kindDynamic && eqb end wordBytes && lone) _ _ (small code.array 0 1 1 (omega arith) (omega arith) (omega arith))
       (small (tupleCode (suc last)) 0 0 (suc last) (tuple-bound (suc last)) (omega arith) (omega arith))))
 
-  bounded-plan : (r : ℕ) → isRecord (nodeOf s r) ≡ true → Bounded (planOf s r)
+  pub bounded-plan : (r : ℕ) → isRecord (nodeOf s r) ≡ true → Bounded (planOf s r)
   unfolding planOf kindPlan
   bounded-plan r F =
       let n = name-bound (nodeOf s r) F in
       either (nameHolds (nodeOf s r) (isEmpty (childrenIn s r))) _ _ (small (nodeOf s r .name) 0 0 0 (omega arith) (omega arith) (omega arith))
       (either (eqb (nodeOf s r .kind) kindArray) _ _ (small code.array (tupleCode (lastWord s r)) 1 (lastWord s r) (omega arith) (tuple-bound (lastWord s r)) (omega arith))
       (bounded-open (nodeOf s r .kind) (isEmpty (childrenIn s r)) (isLonePlain s (childrenIn s r)) (endKey s r) (lastWord s r)))
-
-  pub bounded-word : (c : ℕ) → ((c ≡ 0 → ⊥) → isRecord (nodeOf s c) ≡ true) → Bounded (wordPlan s c)
-  unfolding wordPlan
-  bounded-word zero F = small wordCode 0 0 0 (omega arith) (omega arith) (omega arith)
-  bounded-word (suc c) F = rw (ne-eqb (suc c) 0 (λ z. omega arith)) (bounded-plan (suc c) (F (λ z. omega arith)))
-
-  -- words follow only where there is a child
-  pub word-there : (c : ℕ) → (wordPlan s c .words ≡ 0 → ⊥) → c ≡ 0 → ⊥
-  unfolding wordPlan
-  word-there c n z = n (rw (eq-eqb c 0 z) refl)

@@ -1,9 +1,10 @@
 -- A fact with no child and no kind has one code: its name, or uint256 without one. Assumes nothing.
 use Prim.Native.Nat.{ℕ, _+_, _*_, _≤_}
 use mathlib.Core.Path.{_≡_, refl, sym, ap, _∙_}
-use mathlib.Core.Bool.{Bool, true, false, cond, not, _&&_, and-eq-true-iff}
+use mathlib.Core.Bool.{Bool, true, false, cond, not, _&&_}
 use mathlib.Core.List.{List, [], _∷_, _++_}
 use native.Mathlib.Omega.{arith}
+use native.Mathlib.Decide.{ℕ-discrete}
 use lib.Dec.{eqb}
 use lib.ListN.{length}
 use borrow.Author.Tests.{eqb-true, eq-eqb, ne-eqb}
@@ -13,7 +14,7 @@ use Rattle.names.specs.Elementary.{codeOf}
 use Rattle.types.specs.Codes.{codes, allCodes}
 use Rattle.facts.specs.Table.{childOf, kindOf, nameOf}
 use Rattle.facts.specs.Sound.{Sound}
-use Rattle.facts.specs.State.{Node, nodeAt, nodes, nodeOf, kidsIn}
+use Rattle.facts.specs.State.{Node, nodeAt, nodes, nodeOf, kidsIn, kidsOf}
 use Rattle.facts.specs.Fact.{isRecord}
 use Rattle.facts.proofs.Encode.{length-nodes, nodes-get, kids-nodes}
 use Rattle.facts.proofs.States.{sound-formed}
@@ -22,19 +23,23 @@ use Rattle.paths.specs.Shape.{Shaped}
 use Rattle.paths.specs.Find.{findIn}
 use Rattle.paths.proofs.Frame.{sound-shaped}
 use Rattle.paths.proofs.Reach.{shaped-ordered}
-use Rattle.paths.proofs.Tail.{tail-start, tail-none}
+use Rattle.paths.proofs.Tail.{Tail, tail-start, tail-more, tail-none}
 use Rattle.paths.proofs.Walk.{at-start, at-none}
 use Rattle.paths.proofs.Finds.{found-is}
 use Rattle.list.specs.Seen.{seenOnes, childrenIn, isEmpty, lastFrom, lastWord}
 use Rattle.list.specs.Types.{nameHolds, hasWord, wordsWith, typeOf, wordTypes}
 use Rattle.type_walk.specs.declared.Plan.{Plan}
-use Rattle.type_walk.specs.Plan.{plan, wordCode, openPlan, kindPlan, planOf, leads}
+use Rattle.type_walk.specs.Plan.{plan, wordCode, openPlan, kindPlan, planOf, leafCode, leads}
 use Rattle.type_walk.proofs.PlanLaws.{lead-some, codes-plan}
 use Rattle.type_walk.proofs.BoundLaws.{name-bound}
 
 not-false : (b : Bool) → not b ≡ false → b ≡ true
 not-false true e = refl
 not-false false e = sym e
+
+not-true : (b : Bool) → not b ≡ true → b ≡ false
+not-true true e = sym e
+not-true false e = refl
 
 -- "Count is 1 to 99 for an array, at most 134,217,727 for dynamic, else 0."
 count-none : (n : Node) → isRecord n ≡ true → n .kind ≡ 0 → n .count ≡ 0
@@ -53,14 +58,6 @@ leaf-fails : (n : Node) (b : Bool) → n .name ≡ 0 → nameHolds n b ≡ false
 unfolding nameHolds
 leaf-fails n b e = rw e refl
 
--- what is tested of it
-pub leaf-parts : (x y v h k : ℕ) → not (eqb x y && eqb v 1 && eqb h 0 && eqb k 0) ≡ false → (x ≡ y) × (v ≡ 1) × (h ≡ 0) × (k ≡ 0)
-leaf-parts x y v h k e =
-    let a = and-eq-true-iff (eqb x y && eqb v 1 && eqb h 0) (eqb k 0) .0 (not-false (eqb x y && eqb v 1 && eqb h 0 && eqb k 0) e) in
-    let b = and-eq-true-iff (eqb x y && eqb v 1) (eqb h 0) .0 (a .0) in
-    let d = and-eq-true-iff (eqb x y) (eqb v 1) .0 (b .0) in
-    (eqb-true x y (d .0), eqb-true v 1 (d .1), eqb-true h 0 (b .1), eqb-true k 0 (a .1))
-
 module _ (t : List ℕ) (u N c : ℕ) (S : Sound t u N) (c1 : 1 ≤ c) (cu : c ≤ u) where
   node-is : nodeOf (nodes t u) c ≡ nodeAt t c
   node-is = nodes-get t u c c1 cu
@@ -75,7 +72,7 @@ module _ (t : List ℕ) (u N c : ℕ) (S : Sound t u N) (c1 : 1 ≤ c) (cu : c �
   shaped = sound-shaped t u N S
 
   -- a name is small
-  pub name-small : (v : ℕ) → v ≡ nameOf t c → v ≤ 3032
+  name-small : (v : ℕ) → v ≡ nameOf t c → v ≤ 3032
   name-small v e = let b = name-bound (nodeOf (nodes t u) c) fact-is in let q = ap (λ (n : Node). n .name) node-is in omega arith
 
   module _ (v : ℕ) (e : v ≡ nameOf t c) (h k : ℕ) (he : h ≡ childOf t c) (h0 : h ≡ 0) (ke : k ≡ kindOf t c) (k0 : k ≡ 0) where
@@ -107,14 +104,68 @@ module _ (t : List ℕ) (u N c : ℕ) (S : Sound t u N) (c1 : 1 ≤ c) (cu : c �
         codes-plan (nodes t u) (shaped-ordered t u N shaped) c c1 long fact-is
         ∙ ap (λ (x : Plan). leads x ++ allCodes (wordTypes (nodes t u) c (x .start) (x .words))) q
 
-    pub leaf-named : (v ≡ 0 → ⊥) → codes (typeOf (nodes t u) c) ≡ v ∷ []
+    named-codes : (v ≡ 0 → ⊥) → codes (typeOf (nodes t u) c) ≡ v ∷ []
     unfolding planOf wordsWith allCodes
-    leaf-named n =
+    named-codes n =
         spelt (plan v 0 0 0) (rw (no-children, leaf-holds (nodeOf (nodes t u) c) kind-is (λ z. n (sym name-is ∙ z)), name-is) refl)
         ∙ rw (lead-some v (omega (arith, n))) refl
 
-    pub leaf-unnamed : v ≡ 0 → codes (typeOf (nodes t u) c) ≡ wordCode ∷ []
+    unnamed-codes : v ≡ 0 → codes (typeOf (nodes t u) c) ≡ wordCode ∷ []
     unfolding planOf kindPlan openPlan wordsWith allCodes codes codeOf
-    leaf-unnamed z =
+    unnamed-codes z =
         spelt (plan 0 0 0 1) (rw (leaf-fails (nodeOf (nodes t u) c) (isEmpty (childrenIn (nodes t u) c)) (name-is ∙ z), kind-is, no-words) refl)
         ∙ rw no-word refl
+
+  -- the record has a child exactly if the fact has one
+  kids-empty : (h : ℕ) → h ≡ childOf t c → isEmpty (kidsIn (nodes t u) c) ≡ eqb h 0
+  kids-empty h e = go (ℕ-discrete h 0)
+    where
+      start : Tail t u c h (kidsOf t u c)
+      start = tail-start t u c (shaped .linked) c1 cu h e
+
+      go : Dec (h ≡ 0) → isEmpty (kidsIn (nodes t u) c) ≡ eqb h 0
+      go (yes z) = rw (kids-nodes t u c, tail-none t u c h (kidsOf t u c) start z, eq-eqb h 0 z) refl
+      go (no n) = rw (kids-nodes t u c, tail-more t u c h (kidsOf t u c) start n .is, ne-eqb h 0 n) refl
+
+  leaf-is : (h k v : ℕ) → h ≡ childOf t c → k ≡ kindOf t c → v ≡ nameOf t c
+      → leafCode (nodes t u) c ≡ cond (eqb h 0 && eqb k 0) (cond (eqb v code.noName) wordCode v) 0
+  unfolding leafCode
+  leaf-is h k v he ke e = rw (kids-empty h he, node-is, ← ke, ← e) refl
+
+  -- what the code answers
+  module _ (h k : ℕ) (he : h ≡ childOf t c) (ke : k ≡ kindOf t c) where
+    pub leaf-else : not (eqb h 0 && eqb k 0) ≡ true → 0 ≡ leafCode (nodes t u) c
+    leaf-else q = sym (leaf-is h k (nameOf t c) he ke refl ∙ rw (not-true (eqb h 0 && eqb k 0) q) refl)
+
+    module _ (q : not (eqb h 0 && eqb k 0) ≡ false) (v : ℕ) (e : v ≡ nameOf t c) where
+      pub leaf-unnamed : v ≡ 0 → wordCode ≡ leafCode (nodes t u) c
+      leaf-unnamed z = sym (leaf-is h k v he ke e ∙ rw (not-false (eqb h 0 && eqb k 0) q, eq-eqb v 0 z) refl)
+
+      pub leaf-named : (v ≡ 0 → ⊥) → v ≡ leafCode (nodes t u) c
+      leaf-named n = sym (leaf-is h k v he ke e ∙ rw (not-false (eqb h 0 && eqb k 0) q, ne-eqb v 0 n) refl)
+
+  -- and what its answer x says
+  module _ (x : ℕ) (e : x ≡ leafCode (nodes t u) c) where
+    answer-is : x ≡ cond (eqb (childOf t c) 0 && eqb (kindOf t c) 0) (cond (eqb (nameOf t c) code.noName) wordCode (nameOf t c)) 0
+    answer-is = e ∙ leaf-is (childOf t c) (kindOf t c) (nameOf t c) refl refl refl
+
+    pub leaf-small : x ≤ 3032
+    leaf-small = rw answer-is (go (eqb (childOf t c) 0 && eqb (kindOf t c) 0) (eqb (nameOf t c) code.noName))
+      where
+        go : (a b : Bool) → cond a (cond b wordCode (nameOf t c)) 0 ≤ 3032
+        go false b = omega arith
+        go true true = omega arith
+        go true false = name-small (nameOf t c) refl
+
+    pub leaf-codes : (x ≡ 0 → ⊥) → codes (typeOf (nodes t u) c) ≡ x ∷ []
+    leaf-codes n = go (ℕ-discrete (childOf t c) 0) (ℕ-discrete (kindOf t c) 0) (ℕ-discrete (nameOf t c) 0)
+      where
+        go : Dec (childOf t c ≡ 0) → Dec (kindOf t c ≡ 0) → Dec (nameOf t c ≡ 0) → codes (typeOf (nodes t u) c) ≡ x ∷ []
+        go (no h) k v = absurd (n (answer-is ∙ rw (ne-eqb (childOf t c) 0 h) refl))
+        go (yes h) (no k) v = absurd (n (answer-is ∙ rw (eq-eqb (childOf t c) 0 h, ne-eqb (kindOf t c) 0 k) refl))
+        go (yes h) (yes k) (yes v) =
+            unnamed-codes (nameOf t c) refl (childOf t c) (kindOf t c) refl h refl k v
+            ∙ ap (λ (y : ℕ). y ∷ []) (sym (answer-is ∙ rw (eq-eqb (childOf t c) 0 h, eq-eqb (kindOf t c) 0 k, eq-eqb (nameOf t c) 0 v) refl))
+        go (yes h) (yes k) (no v) =
+            named-codes (nameOf t c) refl (childOf t c) (kindOf t c) refl h refl k v
+            ∙ ap (λ (y : ℕ). y ∷ []) (sym (answer-is ∙ rw (eq-eqb (childOf t c) 0 h, eq-eqb (kindOf t c) 0 k, ne-eqb (nameOf t c) 0 v) refl))

@@ -1,5 +1,6 @@
 pub mod PlanLaws
 mod AheadLaws
 mod BoundLaws
+mod FactLaws
 mod LeafLaws
 mod WriteLaws

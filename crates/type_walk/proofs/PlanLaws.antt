@@ -1,4 +1,4 @@
--- What is written for a fact is its type's codes: `codes-plan`, `codes-word`. Assumes nothing.
+-- What is written for a fact is its type's codes: `codes-plan`. Assumes nothing.
 use Prim.Native.Nat.{ℕ, zero, suc, _+_, _-_, _*_, _/_, _≤_, max}
 use mathlib.Core.Path.{_≡_, refl, sym, ap, _∙_}
 use mathlib.Core.Bool.{Bool, true, false, false≢true, cond, not, _&&_, _||_, and-eq-true-iff}
@@ -6,7 +6,7 @@ use mathlib.Core.List.{List, [], _∷_, _++_, append-nil}
 use native.Mathlib.Omega.{arith}
 use lib.Dec.{eqb, leb}
 use lib.ListN.{length}
-use borrow.Author.Tests.{eqb-true, eq-eqb, ne-eqb, le-leb, leb-true}
+use borrow.Author.Tests.{eqb-true, eq-eqb, le-leb, leb-true}
 use Rattle.limits.specs.Codes as code
 use Rattle.limits.specs.Limits.{wordBytes, kindDynamic, kindArray, arrayCountMax, dynamicCountMax}
 use Rattle.names.specs.Elementary.{bytes, codeOf, isName}
@@ -16,13 +16,12 @@ use Rattle.types.specs.Codes.{codes, allCodes}
 use Rattle.facts.specs.State.{Node, nodeOf}
 use Rattle.facts.specs.Fact.{isRecord, isCount}
 use Rattle.facts.proofs.Whole.{fact-parts}
-use Rattle.paths.specs.Find.{findIn}
 use Rattle.paths.specs.Order.{Ordered}
 use Rattle.list.specs.Seen.{childrenIn, isEmpty, isLonePlain, lastKey, lastWord}
-use Rattle.list.specs.Types.{uint256, nameHolds, endKey, startWord, wordCount, together, second, byKind, hasWord, wordsWith, typeOf, wordTypes}
-use Rattle.list.proofs.TypeLaws.{count-words, type-is, found-range, has-found}
+use Rattle.list.specs.Types.{uint256, nameHolds, endKey, startWord, wordCount, together, second, byKind, wordsWith, typeOf, wordTypes}
+use Rattle.list.proofs.TypeLaws.{count-words, type-is}
 use Rattle.type_walk.specs.declared.Plan.{Plan}
-use Rattle.type_walk.specs.Plan.{plan, wordCode, tupleCode, openPlan, kindPlan, planOf, wordChild, wordPlan, lead, leads}
+use Rattle.type_walk.specs.Plan.{plan, tupleCode, openPlan, kindPlan, planOf, lead, leads}
 
 -- the last word is the word of the end
 end-word : (k c : ℕ) → max k (wordBytes * c) ≡ wordBytes → max (k / wordBytes) c ≡ 1
@@ -150,22 +149,3 @@ module _ (s : List Node) (O : Ordered s) (r : ℕ) (r1 : 1 ≤ r) (rn : r ≤ le
       (λ q. let a = holds-name (nodeOf s r) (isEmpty (childrenIn s r)) F q in
       ap (λ (c : ℕ). c ∷ []) (name-is-code (nodeOf s r .name) a) ∙ sym (rw (lead-some (nodeOf s r .name) (name-some (nodeOf s r .name) a)) refl))
       (λ _. spelt-kind s r array-word)
-
--- the codes of a word
-pub codes-word : (s : List Node) (O : Ordered s) (r w c : ℕ) → 1 ≤ r → ((q : ℕ) → 1 ≤ q → q ≤ length s → isRecord (nodeOf s q) ≡ true) → c ≡ wordChild s r w
-    → codes (cond (hasWord s r w) (typeOf s (findIn s r (wordBytes * w))) uint256) ≡ leads (wordPlan s c) ++ allCodes (wordTypes s c (wordPlan s c .start) (wordPlan s c .words))
-unfolding wordChild wordPlan codes codeOf allCodes wordsWith
-codes-word s O r w c r1 F e = rw e (go (hasWord s r w) refl)
-  where
-    x : ℕ
-    x = findIn s r (wordBytes * w)
-
-    go : (b : Bool) → hasWord s r w ≡ b
-        → codes (cond b (typeOf s x) uint256) ≡ leads (cond (eqb (cond b x 0) 0) (plan wordCode 0 0 0) (planOf s (cond b x 0)))
-        ++ allCodes (wordTypes s (cond b x 0) (cond (eqb (cond b x 0) 0) (plan wordCode 0 0 0) (planOf s (cond b x 0)) .start)
-        (cond (eqb (cond b x 0) 0) (plan wordCode 0 0 0) (planOf s (cond b x 0)) .words))
-    go true h =
-        let n = has-found s O r w h in
-        let R = found-range s O r (wordBytes * w) r1 n in
-        rw (ne-eqb x 0 n) (codes-plan s O x (omega (arith, R .0)) (R .1) (F x (omega (arith, R .0)) (R .1)))
-    go false h = refl

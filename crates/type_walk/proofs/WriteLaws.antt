@@ -1,14 +1,15 @@
 -- The codes of a fact's words, stored one word after the other: what is left to store before each. Assumes nothing.
-use Prim.Native.Nat.{ℕ, suc, _+_, _-_, _*_, _^_, _≤_, _<_}
+use Prim.Native.Nat.{ℕ, suc, _+_, _-_, _*_, _≤_, _<_}
 use mathlib.Core.Path.{_≡_, refl, sym, ap, _∙_}
-use mathlib.Core.Bool.{Bool, true, false, cond}
+use mathlib.Core.Bool.{Bool, true, false, true≢false, cond, not, _&&_, and-eq-true-iff}
 use mathlib.Core.List.{List, [], _∷_, _++_}
 use native.Mathlib.Omega.{arith}
 use native.Mathlib.Nat.{add-zero}
 use native.Mathlib.Decide.{ℕ-discrete}
+use lib.Dec.{eqb}
 use lib.ListN.{length, set, length-append}
 use lib.Seq.{sets, length-sets}
-use borrow.Author.Tests.{eq-eqb, ne-eqb}
+use borrow.Author.Tests.{eqb-true, eq-eqb, ne-eqb}
 use Rattle.limits.specs.Limits.{wordBytes, codesMax}
 use Rattle.spell.proofs.Stores.{sets-append, sets-both}
 use Rattle.names.specs.Elementary.{codeOf}
@@ -18,9 +19,7 @@ use Rattle.facts.specs.Table.{keyOf, parentOf, childOf, nextOf, seenOf}
 use Rattle.facts.specs.Links.{Linked}
 use Rattle.facts.specs.Sound.{Sound}
 use Rattle.facts.specs.State.{Node, nodes, nodeOf}
-use Rattle.facts.specs.Fact.{isRecord}
-use Rattle.facts.proofs.Encode.{length-nodes, nodes-get}
-use Rattle.facts.proofs.States.{sound-formed}
+use Rattle.facts.proofs.Encode.{nodes-get}
 use Rattle.paths.specs.Find.{findIn}
 use Rattle.paths.specs.Order.{Ordered}
 use Rattle.paths.proofs.Frame.{sound-shaped}
@@ -29,11 +28,9 @@ use Rattle.paths.proofs.Walk.{At, at-start, at-found, at-past, at-none}
 use Rattle.paths.proofs.Finds.{found-is}
 use Rattle.list.specs.Types.{uint256, hasWord, wordsWith, typeOf, wordTypes}
 use Rattle.list.proofs.TypeLaws.{count-words, found-range, has-found}
-use Rattle.type_walk.specs.declared.Plan.{Plan}
 use Rattle.type_walk.specs.Walk.{Reached, Writing}
-use Rattle.type_walk.specs.Plan.{wordCode, wordChild, wordPlan, lead, leads}
-use Rattle.type_walk.proofs.PlanLaws.{lead-some, codes-word}
-use Rattle.type_walk.proofs.BoundLaws.{Bounded, bounded-word, word-there}
+use Rattle.type_walk.specs.Plan.{wordCode, wordChild, lead}
+use Rattle.type_walk.proofs.PlanLaws.{lead-some}
 
 -- one code or none
 pub lead-none : (l : List ℕ) (i c : ℕ) → c ≡ 0 → (l ≡ sets l i (lead c)) × (i ≡ i + length (lead c))
@@ -136,20 +133,43 @@ pub not-all : (i words : ℕ) → i ≤ words → (i ≡ words → ⊥) → i < 
 not-all i words h n = omega (arith, n)
 
 -- no fewer codes than words
-words-codes : (s : List Node) (r w n : ℕ) → n ≤ length (allCodes (wordTypes s r w n))
+pub words-codes : (s : List Node) (r w n : ℕ) → n ≤ length (allCodes (wordTypes s r w n))
 words-codes s r w n = let e = count-words (typeOf s) s r w n in let h = count-codes (wordTypes s r w n) in omega arith
 
--- the codes of a word that has no child
-no-codes : (s : List Node) (r w : ℕ) → 0 ≡ findIn s r (wordBytes * w) → codes (cond (hasWord s r w) (typeOf s (findIn s r (wordBytes * w))) uint256) ≡ wordCode ∷ []
+-- the codes of a word
+abbrev wordCodes : List Node → ℕ → ℕ → List ℕ
+wordCodes s r w = codes (cond (hasWord s r w) (typeOf s (findIn s r (wordBytes * w))) uint256)
+
+-- of one that has no child
+no-codes : (s : List Node) (r w : ℕ) → 0 ≡ findIn s r (wordBytes * w) → wordCodes s r w ≡ wordCode ∷ []
 unfolding codes codeOf
 no-codes s r w e = rw (eq-eqb (findIn s r (wordBytes * w)) 0 (sym e)) refl
 
--- the codes of a word whose child is c
-pub word-codes : (s : List Node) (r w c : ℕ) (cs : List ℕ) → c ≡ findIn s r (wordBytes * w) → (c ≡ 0 → ⊥) → nodeOf s c .seen ≡ 1 → codes (typeOf s c) ≡ cs
-    → codes (cond (hasWord s r w) (typeOf s (findIn s r (wordBytes * w))) uint256) ≡ cs
-word-codes s r w c cs e n q d =
-    rw (ne-eqb (findIn s r (wordBytes * w)) 0 (λ z. n (e ∙ z)), eq-eqb (nodeOf s (findIn s r (wordBytes * w)) .seen) 1 (ap (λ (x : ℕ). nodeOf s x .seen) (sym e) ∙ q))
-    (ap (λ (x : ℕ). codes (typeOf s x)) (sym e) ∙ d)
+-- of one whose child is c
+word-codes : (s : List Node) (r w c : ℕ) → c ≡ findIn s r (wordBytes * w) → (c ≡ 0 → ⊥) → nodeOf s c .seen ≡ 1 → wordCodes s r w ≡ codes (typeOf s c)
+word-codes s r w c e n q =
+    rw (
+      ne-eqb (findIn s r (wordBytes * w)) 0 (λ z. n (e ∙ z)),
+      eq-eqb (nodeOf s (findIn s r (wordBytes * w)) .seen) 1 (ap (λ (x : ℕ). nodeOf s x .seen) (sym e) ∙ q),
+    )
+    (ap (λ (x : ℕ). codes (typeOf s x)) (sym e))
+
+-- by the seen child that was looked for
+child-codes : (s : List Node) (r w c : ℕ) → c ≡ wordChild s r w → (c ≡ 0 → ⊥) → wordCodes s r w ≡ codes (typeOf s c)
+unfolding wordChild
+child-codes s r w c e n = go (hasWord s r w) e
+  where
+    go : (b : Bool) → c ≡ cond b (findIn s r (wordBytes * w)) 0 → codes (cond b (typeOf s (findIn s r (wordBytes * w))) uint256) ≡ codes (typeOf s c)
+    go true q = ap (λ (x : ℕ). codes (typeOf s x)) (sym q)
+    go false q = absurd (n q)
+
+childless-codes : (s : List Node) → Ordered s → (r w : ℕ) → wordChild s r w ≡ 0 → wordCodes s r w ≡ wordCode ∷ []
+unfolding wordChild codes codeOf
+childless-codes s O r w e = go (hasWord s r w) refl e
+  where
+    go : (b : Bool) → hasWord s r w ≡ b → cond b (findIn s r (wordBytes * w)) 0 ≡ 0 → codes (cond b (typeOf s (findIn s r (wordBytes * w))) uint256) ≡ wordCode ∷ []
+    go true h q = absurd (has-found s O r w h q)
+    go false h q = refl
 
 module _ (t : List ℕ) (u r start words : ℕ) (types₀ : List ℕ) (at : ℕ) where
   pub writing-start : (c : ℕ) → Reached t u r (wordBytes * start) c → Writing t u r start words types₀ at types₀ at c 0
@@ -193,7 +213,7 @@ module _ (t : List ℕ) (u r start words : ℕ) (types₀ : List ℕ) (at : ℕ)
 
   -- one turn: word i, whose codes are cs
   module _ (types : List ℕ) (to c i : ℕ) (W : Writing t u r start words types₀ at types to c i) (lt : i < words) (cs : List ℕ)
-      (is : codes (cond (hasWord (nodes t u) r (start + i)) (typeOf (nodes t u) (findIn (nodes t u) r (wordBytes * (start + i)))) uint256) ≡ cs) where
+      (is : wordCodes (nodes t u) r (start + i) ≡ cs) where
     -- the codes of the words that follow
     abbrev rest : List ℕ
     rest = allCodes (wordTypes (nodes t u) r (start + (i + 1)) (words - (i + 1)))
@@ -222,9 +242,6 @@ module _ (t : List ℕ) (u r start words : ℕ) (types₀ : List ℕ) (at : ℕ)
     }
 
 module _ (t : List ℕ) (u N r start words : ℕ) (S : Sound t u N) (r1 : 1 ≤ r) (ru : r ≤ u) (types₀ : List ℕ) (at : ℕ) where
-  fact-of : (c : ℕ) → (c ≡ 0 → ⊥) → c ≤ u → isRecord (nodeOf (nodes t u) c) ≡ true
-  fact-of c n h = sound-formed t u N S .fact c (omega (arith, n)) (let e = length-nodes t u in omega arith)
-
   ordered : Ordered (nodes t u)
   ordered = shaped-ordered t u N (sound-shaped t u N S)
 
@@ -235,7 +252,7 @@ module _ (t : List ℕ) (u N r start words : ℕ) (S : Sound t u N) (r1 : 1 ≤ 
   -- word i, which stands before the child to look at
   module _ (types : List ℕ) (to c i : ℕ) (W : Writing t u r start words types₀ at types to c i) (lt : i < words) (end : ℕ) (e : (c ≡ 0 → ⊥) → end ≡ keyOf t c)
       (low : wordBytes * (start + i) < end) where
-    gap-is : codes (cond (hasWord (nodes t u) r (start + i)) (typeOf (nodes t u) (findIn (nodes t u) r (wordBytes * (start + i)))) uint256) ≡ wordCode ∷ []
+    gap-is : wordCodes (nodes t u) r (start + i) ≡ wordCode ∷ []
     gap-is =
         let Z = sound-shaped t u N S in
         no-codes (nodes t u) r (start + i) (reached-before t u r (Z .linked) r1 ru (Z .root-parent) (wordBytes * (start + i)) c (W .reached) end e low)
@@ -248,76 +265,74 @@ module _ (t : List ℕ) (u N r start words : ℕ) (S : Sound t u N) (r1 : 1 ≤ 
         writing-next t u r start words types₀ at types to c i W lt (wordCode ∷ []) gap-is types′ to′ c d q
         (reached-up t u r (sound-shaped t u N S .linked) r1 ru (wordBytes * (start + i)) (wordBytes * (start + i) + 1) c (omega arith) (W .reached))
 
-  -- word i, which has one code
-  module _ (types : List ℕ) (to c i : ℕ) (W : Writing t u r start words types₀ at types to c i) (lt : i < words) (n : c ≡ 0 → ⊥) (key : keyOf t c ≡ wordBytes * (start + i))
-      (seen : seenOf t c ≡ 1) (x : ℕ) (is : codes (typeOf (nodes t u) c) ≡ x ∷ []) where
-    found : (c ≡ findIn (nodes t u) r (wordBytes * (start + i))) × (c ≤ u)
-    found =
+  -- word i, whose child is the one to look at
+  module _ (types : List ℕ) (to c i : ℕ) (W : Writing t u r start words types₀ at types to c i) (lt : i < words) (n : c ≡ 0 → ⊥)
+      (key : keyOf t c ≡ wordBytes * (start + i)) (seen : seenOf t c ≡ 1) where
+    word-is : wordCodes (nodes t u) r (start + i) ≡ codes (typeOf (nodes t u) c)
+    word-is =
         let Z = sound-shaped t u N S in
-        reached-found t u r (Z .linked) r1 ru (Z .root-parent) (wordBytes * (start + i)) c (W .reached) n key
+        let F = reached-found t u r (Z .linked) r1 ru (Z .root-parent) (wordBytes * (start + i)) c (W .reached) n key in
+        word-codes (nodes t u) r (start + i) c (F .0) n (seen-at t u c 1 n (F .1) (sym seen))
 
-    word-is : codes (cond (hasWord (nodes t u) r (start + i)) (typeOf (nodes t u) (findIn (nodes t u) r (wordBytes * (start + i)))) uint256) ≡ x ∷ []
-    word-is = word-codes (nodes t u) r (start + i) c (x ∷ []) (found .0) n (seen-at t u c 1 n (found .1) (sym seen)) is
+    pub child-fits : at + length (allCodes (wordTypes (nodes t u) r start words)) ≤ codesMax → to + length (codes (typeOf (nodes t u) c)) ≤ codesMax
+    child-fits room = word-fits t u r start words types₀ at types to c i W lt (codes (typeOf (nodes t u) c)) word-is room
 
-    pub leaf-fits : at + length (allCodes (wordTypes (nodes t u) r start words)) ≤ codesMax → to + 1 ≤ codesMax
-    leaf-fits room = word-fits t u r start words types₀ at types to c i W lt (x ∷ []) word-is room
-
-    pub leaf-next : (types′ : List ℕ) (to′ c′ : ℕ) → types′ ≡ set types to x → to′ ≡ to + 1 → c′ ≡ nextOf t c → Writing t u r start words types₀ at types′ to′ c′ (i + 1)
-    leaf-next types′ to′ c′ e q d =
-        writing-next t u r start words types₀ at types to c i W lt (x ∷ []) word-is types′ to′ c′ e q
+    pub child-next : (types′ : List ℕ) (to′ c′ : ℕ) → types′ ≡ sets types to (codes (typeOf (nodes t u) c)) → to′ ≡ to + length (codes (typeOf (nodes t u) c))
+        → c′ ≡ nextOf t c → Writing t u r start words types₀ at types′ to′ c′ (i + 1)
+    child-next types′ to′ c′ e q d =
+        writing-next t u r start words types₀ at types to c i W lt (codes (typeOf (nodes t u) c)) word-is types′ to′ c′ e q
         (reached-behind t u r (sound-shaped t u N S .linked) r1 ru (wordBytes * (start + i)) c c′ (W .reached) n key d)
 
-  -- word i, whose child is q, by a plan
-  module _ (types : List ℕ) (to c i : ℕ) (W : Writing t u r start words types₀ at types to c i) (lt : i < words) (q : ℕ) (e : q ≡ wordChild (nodes t u) r (start + i)) (qu : q ≤ u)
-      (p : Plan) (pe : p ≡ wordPlan (nodes t u) q) where
-    -- the codes of the child's words
-    abbrev inner : List ℕ
-    inner = allCodes (wordTypes (nodes t u) q (p .start) (p .words))
+  -- word i, whose child q was looked for
+  module _ (types : List ℕ) (to c i : ℕ) (W : Writing t u r start words types₀ at types to c i) (lt : i < words) (q : ℕ)
+      (e : q ≡ wordChild (nodes t u) r (start + i)) where
+    module _ (z : q ≡ 0) where
+      none-is : wordCodes (nodes t u) r (start + i) ≡ wordCode ∷ []
+      none-is = childless-codes (nodes t u) ordered r (start + i) (sym e ∙ z)
 
-    plan-is : codes (cond (hasWord (nodes t u) r (start + i)) (typeOf (nodes t u) (findIn (nodes t u) r (wordBytes * (start + i)))) uint256) ≡ leads p ++ inner
-    plan-is =
-        codes-word (nodes t u) ordered r (start + i) q r1 (λ x x1 h. sound-formed t u N S .fact x x1 h) e
-        ∙ ap (λ (x : Plan). leads x ++ allCodes (wordTypes (nodes t u) q (x .start) (x .words))) (sym pe)
+      pub none-fits : at + length (allCodes (wordTypes (nodes t u) r start words)) ≤ codesMax → to + 1 ≤ codesMax
+      none-fits room = word-fits t u r start words types₀ at types to c i W lt (wordCode ∷ []) none-is room
 
-    plan-length : length (leads p ++ inner) ≡ length (leads p) + length inner
-    plan-length = length-append (leads p) inner
+      pub none-next : (types′ : List ℕ) (to′ c′ : ℕ) → types′ ≡ set types to wordCode → to′ ≡ to + 1 → Reached t u r (wordBytes * (start + i) + 1) c′
+          → Writing t u r start words types₀ at types′ to′ c′ (i + 1)
+      none-next types′ to′ c′ d p R = writing-next t u r start words types₀ at types to c i W lt (wordCode ∷ []) none-is types′ to′ c′ d p R
 
-    module _ (room : at + length (allCodes (wordTypes (nodes t u) r start words)) ≤ codesMax) (long : codesMax ≤ length types₀) where
-      bounded : Bounded p
-      bounded = rw pe (bounded-word (nodes t u) q (λ n. fact-of q n qu))
+    module _ (n : q ≡ 0 → ⊥) where
+      some-is : wordCodes (nodes t u) r (start + i) ≡ codes (typeOf (nodes t u) q)
+      some-is = child-codes (nodes t u) r (start + i) q e n
 
-      both-fit : to + length (leads p ++ inner) ≤ codesMax
-      both-fit = word-fits t u r start words types₀ at types to c i W lt (leads p ++ inner) plan-is room
+      pub some-above : r < q
+      some-above = child-above (nodes t u) r (start + i) q ordered r1 e n .0
 
-      pub plan-fits : ((p .first < 2 ^ 16) × (p .second < 2 ^ 16)) × (to + length (leads p) ≤ length types)
-      plan-fits =
-          let b = both-fit in let l = plan-length in let h = words-codes (nodes t u) q (p .start) (p .words) in
-          let z = W .size in let f = bounded .first in let g = bounded .second in
-          ((omega arith, omega arith), omega arith)
+      pub some-fits : at + length (allCodes (wordTypes (nodes t u) r start words)) ≤ codesMax → to + length (codes (typeOf (nodes t u) q)) ≤ codesMax
+      some-fits room = word-fits t u r start words types₀ at types to c i W lt (codes (typeOf (nodes t u) q)) some-is room
 
-      pub inner-fits : (to₁ : ℕ) → to₁ ≡ to + length (leads p) → to₁ + length inner ≤ codesMax
-      inner-fits to₁ d = let b = both-fit in let l = plan-length in omega arith
+      pub some-next : (types′ : List ℕ) (to′ c′ : ℕ) → types′ ≡ sets types to (codes (typeOf (nodes t u) q)) → to′ ≡ to + length (codes (typeOf (nodes t u) q))
+          → Reached t u r (wordBytes * (start + i) + 1) c′ → Writing t u r start words types₀ at types′ to′ c′ (i + 1)
+      some-next types′ to′ c′ d p R = writing-next t u r start words types₀ at types to c i W lt (codes (typeOf (nodes t u) q)) some-is types′ to′ c′ d p R
 
-      pub inner-long : (types₁ : List ℕ) → types₁ ≡ sets types to (leads p) → codesMax ≤ length types₁
-      inner-long types₁ d = let l = ap (λ (x : List ℕ). length x) d ∙ length-sets types to (leads p) in let z = W .size in omega arith
+-- a run of children from word i₀ to word i: whatever was written before it, the run goes on with
+pub record Ran (t : List ℕ) (u r start words : ℕ) (types₀ : List ℕ) (to₀ c₀ i₀ : ℕ) (types : List ℕ) (to c i : ℕ) : Type 0 where
+  pub since : i₀ ≤ i
+  pub adds : (list : List ℕ) (at : ℕ) → Writing t u r start words list at types₀ to₀ c₀ i₀ → Writing t u r start words list at types to c i
 
-      pub inner-start : p .start ≤ 1
-      inner-start = bounded .start
+pub ran-start : (t : List ℕ) (u r start words : ℕ) (types : List ℕ) (to c i : ℕ) → Ran t u r start words types to c i types to c i
+ran-start t u r start words types to c i = record { since = omega arith; adds = λ list at W. W }
 
-    pub inner-child : (p .words ≡ 0 → ⊥) → (r < q) × (q ≤ u)
-    inner-child n =
-        let z = word-there (nodes t u) q (λ y. n (ap (λ (x : Plan). x .words) pe ∙ y)) in
-        let A = child-above (nodes t u) r (start + i) q ordered r1 e z in
-        (A .0, qu)
+pub ran-next : (t : List ℕ) (u N r start words : ℕ) → Sound t u N → 1 ≤ r → r ≤ u → (types₀ : List ℕ) (to₀ c₀ i₀ : ℕ) (types : List ℕ) (to c i : ℕ)
+    → Ran t u r start words types₀ to₀ c₀ i₀ types to c i → i < words → (c ≡ 0 → ⊥) → keyOf t c ≡ wordBytes * (start + i) → seenOf t c ≡ 1
+    → (types′ : List ℕ) (to′ c′ : ℕ) → types′ ≡ sets types to (codes (typeOf (nodes t u) c)) → to′ ≡ to + length (codes (typeOf (nodes t u) c)) → c′ ≡ nextOf t c
+    → Ran t u r start words types₀ to₀ c₀ i₀ types′ to′ c′ (i + 1)
+ran-next t u N r start words S r1 ru types₀ to₀ c₀ i₀ types to c i R lt n key seen types′ to′ c′ e q d = record {
+  since = let l = R .since in omega arith;
+  adds = λ list at W. child-next t u N r start words S r1 ru list at types to c i (R .adds list at W) lt n key seen types′ to′ c′ e q d;
+}
 
-    pub plan-next : (types₁ types₂ : List ℕ) (to₁ to₂ c′ : ℕ) → types₁ ≡ sets types to (leads p) → to₁ ≡ to + length (leads p)
-        → types₂ ≡ sets types₁ to₁ inner → to₂ ≡ to₁ + length inner → Reached t u r (wordBytes * (start + i) + 1) c′
-        → Writing t u r start words types₀ at types₂ to₂ c′ (i + 1)
-    plan-next types₁ types₂ to₁ to₂ c′ e₁ q₁ e₂ q₂ R =
-        writing-next t u r start words types₀ at types to c i W lt (leads p ++ inner) plan-is types₂ to₂ c′
-        (sets-both types types₁ types₂ to to₁ (leads p) inner e₁ q₁ e₂) (let l = plan-length in omega arith) R
+-- what is known of the child there
+pub at-parts : (b : Bool) (x y v : ℕ) → b ≡ eqb x y && eqb v 1 → not b ≡ false → (x ≡ y) × (v ≡ 1)
+at-parts false x y v e h = absurd (true≢false h)
+at-parts true x y v e h = let a = and-eq-true-iff (eqb x y) (eqb v 1) .0 (sym e) in (eqb-true x y (a .0), eqb-true v 1 (a .1))
 
-    -- where no word follows nothing more is stored
-    pub inner-none : (types₁ : List ℕ) (to₁ : ℕ) → p .words ≡ 0 → (types₁ ≡ sets types₁ to₁ inner) × (to₁ ≡ to₁ + length inner)
-    unfolding wordsWith allCodes
-    inner-none types₁ to₁ z = rw z (refl, sym (add-zero to₁))
+pub writing-same : (t : List ℕ) (u r start words : ℕ) (list : List ℕ) (at : ℕ) (types types′ : List ℕ) (to to′ c c′ i i′ : ℕ)
+    → types′ ≡ types → to′ ≡ to → c′ ≡ c → i′ ≡ i → Writing t u r start words list at types to c i → Writing t u r start words list at types′ to′ c′ i′
+writing-same t u r start words list at types types′ to to′ c c′ i i′ e q d p W = rw (e, q, d, p) W

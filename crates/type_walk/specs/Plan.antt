@@ -6,7 +6,7 @@ use mathlib.Core.List.{List, [], _∷_, _++_}
 use lib.Dec.{eqb, leb}
 use Rattle.limits.specs.Codes as code
 use Rattle.limits.specs.Limits.{wordBytes, kindDynamic, kindArray}
-use Rattle.facts.specs.State.{Node, nodeOf}
+use Rattle.facts.specs.State.{Node, nodeOf, kidsIn}
 use Rattle.paths.specs.Find.{findIn}
 use Rattle.list.specs.Seen.{childrenIn, isEmpty, isLonePlain, lastWord}
 use Rattle.list.specs.Types.{nameHolds, endKey, hasWord}
@@ -46,9 +46,9 @@ planOf s r = cond (nameHolds (nodeOf s r) (isEmpty (childrenIn s r))) (plan (nod
 unfoldable pub wordChild : List Node → ℕ → ℕ → ℕ
 wordChild s r w = cond (hasWord s r w) (findIn s r (wordBytes * w)) 0
 
--- a word's: uint256 where there is no child
-unfoldable pub wordPlan : List Node → ℕ → Plan
-wordPlan s c = cond (eqb c 0) (plan wordCode 0 0 0) (planOf s c)
+-- the one code of a fact with no child and no kind: its name, or uint256 without one; 0 for any other
+unfoldable pub leafCode : List Node → ℕ → ℕ
+leafCode s r = cond (isEmpty (kidsIn s r) && eqb (nodeOf s r .kind) 0) (cond (eqb (nodeOf s r .name) code.noName) wordCode (nodeOf s r .name)) 0
 
 -- a code, unless it is 0
 abbrev pub lead : ℕ → List ℕ

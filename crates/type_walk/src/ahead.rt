@@ -9,7 +9,7 @@ ghost use Rattle.facts.specs.Sound.{Sound};
 ghost use Rattle.paths.specs.Shape.{Shaped};
 ghost use Rattle.list.specs.Looks.{Looked};
 ghost use Rattle.list.specs.Types.{nameHolds};
-ghost use Rattle.type_walk.specs.Plan.{tupleCode, openPlan, kindPlan, planOf, wordPlan};
+ghost use Rattle.type_walk.specs.Plan.{tupleCode, openPlan, kindPlan, planOf};
 use crate::Plan;
 use facts::field;
 use limits::KIND_ARRAY;
@@ -125,7 +125,7 @@ fn kind_plan(table: &[u32], n: u32, used: u32, r: u32, kids: Children) -> Plan
 }
 
 // What stands ahead for a fact, and which of its words follow.
-fn plan_of(table: &[u32], n: u32, used: u32, r: u32) -> Plan
+pub fn plan_of(table: &[u32], n: u32, used: u32, r: u32) -> Plan
     requires { ⌜ Sound (now table) used n ⌝ }
     requires { ⌜ (1 ≤ r) × (r ≤ used) ⌝ }
     ensures { λ p. ⌜ p ≡ planOf (nodes (now (table .entry)) used) r ⌝ }
@@ -140,21 +140,4 @@ fn plan_of(table: &[u32], n: u32, used: u32, r: u32) -> Plan
         };
     }
     kind_plan(table, n, used, r, kids)
-}
-
-// The same for a word, whose child may be missing.
-pub fn word_plan(table: &[u32], n: u32, used: u32, c: u32) -> Plan
-    requires { ⌜ Sound (now table) used n ⌝ }
-    requires { ⌜ c ≤ used ⌝ }
-    ensures { λ p. ⌜ p ≡ wordPlan (nodes (now (table .entry)) used) c ⌝ }
-{
-    if c == 0 {
-        return Plan {
-            first: WORD_CODE,
-            second: 0,
-            start: 0,
-            words: 0,
-        };
-    }
-    plan_of(table, n, used, c)
 }

@@ -19,9 +19,8 @@ pub struct Found {
     pub next: u32,
 }
 
-// A run of words that are done: how many, the child to look at for the next word, 0 for none, and the index behind their codes.
+// A run of words that are done: how many, and the index behind their codes.
 pub struct Run {
     pub done: u32,
-    pub next: u32,
     pub to: usize,
 }

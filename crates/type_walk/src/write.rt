@@ -1,20 +1,25 @@
 // The walk.
 ghost use mathlib.Core.Path.{_≡_};
+ghost use mathlib.Core.Bool.{_&&_};
 ghost use Prim.Native.Nat.{_+_, _*_, _^_, _≤_, _<_};
+ghost use lib.Dec.{eqb};
 ghost use lib.ListN.{length};
 ghost use lib.Seq.{sets};
 ghost use Rattle.limits.specs.Limits.{codesMax, wordBytes};
+ghost use Rattle.facts.specs.Table.{keyOf, seenOf};
 ghost use Rattle.facts.specs.State.{nodes};
 ghost use Rattle.facts.specs.Sound.{Sound};
 ghost use Rattle.paths.specs.Shape.{Shaped};
-ghost use Rattle.types.specs.Codes.{allCodes};
-ghost use Rattle.list.specs.Types.{wordTypes};
+ghost use Rattle.types.specs.Codes.{codes, allCodes};
+ghost use Rattle.list.specs.Types.{typeOf, wordTypes};
 ghost use Rattle.type_walk.specs.Plan.{lead, leads, wordChild};
 ghost use Rattle.type_walk.specs.Walk.{Reached};
 use crate::Found;
 use crate::Plan;
-use crate::ahead::word_plan;
-use crate::leaves::write_run;
+use crate::ahead::WORD_CODE;
+use crate::ahead::plan_of;
+use crate::leaves::leaf_code;
+use crate::leaves::write_gap;
 use facts::field;
 use limits::WORD_BYTES;
 use limits::fields::CHILD;
@@ -44,6 +49,17 @@ fn put_plan(types: &mut [u16], at: usize, plan: Plan) -> usize
     put_code(types, behind, plan.second)
 }
 
+// Is the record seen, and its key the word's?
+fn is_at(table: &[u32], n: u32, used: u32, c: u32, word: u32) -> bool
+    requires { ⌜ Shaped (now table) used n ⌝ }
+    requires { ⌜ (1 ≤ c) × (c ≤ used) × (word ≤ codesMax) ⌝ }
+    ensures { λ b. ⌜ b ≡ eqb (keyOf (now (table .entry)) c) (wordBytes * word) && eqb (seenOf (now (table .entry)) c) 1 ⌝ }
+{
+    let here = field(table, c, KEY) == WORD_BYTES * word;
+    let seen = field(table, c, SEEN) == 1;
+    here & seen
+}
+
 // The seen child at a word, looked for from first on.
 fn find_word(table: &[u32], n: u32, used: u32, r: u32, word: u32, first: u32) -> Found
     requires { ⌜ Shaped (now table) used n ⌝ }
@@ -71,8 +87,45 @@ fn find_word(table: &[u32], n: u32, used: u32, r: u32, word: u32, first: u32) ->
     Found { child: 0, next: 0 }
 }
 
-// Stores the codes of so many words of a fact from one on, and answers the index behind them: a run of those with one code, then one of any kind, and so on. A child's
-// number is higher than its parent's, so that fewer numbers are left above it.
+// Stores the codes of a fact's type, and answers the index behind them. Most facts have one code: it is stored at once.
+fn write_type(table: &[u32], n: u32, used: u32, r: u32, types: &mut [u16], at: usize) -> usize
+    requires { ⌜ Sound (now table) used n ⌝ }
+    requires { ⌜ (1 ≤ r) × (r ≤ used) ⌝ }
+    requires { ⌜ at + length (codes (typeOf (nodes (now table) used) r)) ≤ codesMax ⌝ }
+    requires { ⌜ codesMax ≤ length (now types) ⌝ }
+    ensures { λ _. ⌜ now (types .exit) ≡ sets (now (types .entry)) at (codes (typeOf (nodes (now (table .entry)) used) r)) ⌝ }
+    ensures { λ to. ⌜ to ≡ at + length (codes (typeOf (nodes (now (table .entry)) used) r)) ⌝ }
+{
+    let code = leaf_code(table, n, used, r);
+    if code != 0 {
+        types[at] = code as u16;
+        return at + 1;
+    }
+    write_planned(table, n, used, r, types, at)
+}
+
+// The same for any fact: what stands ahead of its words, and then those that follow. It is called from two places, so that the compiler keeps it out of a run's loop.
+fn write_planned(table: &[u32], n: u32, used: u32, r: u32, types: &mut [u16], at: usize) -> usize
+    requires { ⌜ Sound (now table) used n ⌝ }
+    requires { ⌜ (1 ≤ r) × (r ≤ used) ⌝ }
+    requires { ⌜ at + length (codes (typeOf (nodes (now table) used) r)) ≤ codesMax ⌝ }
+    requires { ⌜ codesMax ≤ length (now types) ⌝ }
+    ensures { λ _. ⌜ now (types .exit) ≡ sets (now (types .entry)) at (codes (typeOf (nodes (now (table .entry)) used) r)) ⌝ }
+    ensures { λ to. ⌜ to ≡ at + length (codes (typeOf (nodes (now (table .entry)) used) r)) ⌝ }
+{
+    let plan = plan_of(table, n, used, r);
+    let follow = plan.words;
+    let from = plan.start;
+    let to = put_plan(types, at, plan);
+    if follow == 0 {
+        return to;
+    }
+    write_words(table, n, used, r, from, follow, types, to)
+}
+
+// Stores the codes of so many words of a fact from one on, and answers the index behind them: words before the next child, which have uint256; a run of children
+// that stand at their words, a call for each; then one word of any kind, whose child is looked for; and so on. Where a child's number follows the one before, the
+// walk counts on instead of waiting for the number that it loads. It is higher than the parent's, so that fewer numbers are left above it.
 pub fn write_words(
     table: &[u32],
     n: u32,
@@ -94,21 +147,36 @@ pub fn write_words(
     let mut c = field(table, r, CHILD);
     let mut i: u32 = 0;
     while i < words {
-        let run = write_run(table, n, used, r, start + i, words - i, c, types, to);
-        i += run.done;
-        to = run.to;
+        let gap = write_gap(table, n, used, r, start + i, words - i, c, types, to);
+        i += gap.done;
+        to = gap.to;
+        loop {
+            if i == words {
+                return to;
+            }
+            if !is_at(table, n, used, c, start + i) {
+                break;
+            }
+            to = write_type(table, n, used, c, types, to);
+            i += 1;
+            let follow = c as usize + 1;
+            let behind = field(table, c, NEXT);
+            if behind as usize != follow {
+                c = behind;
+                break;
+            }
+            c = follow as u32;
+        }
         if i == words {
             return to;
         }
-        let found = find_word(table, n, used, r, start + i, run.next);
-        let child = found.child;
+        let found = find_word(table, n, used, r, start + i, c);
         c = found.next;
-        let plan = word_plan(table, n, used, child);
-        let follow = plan.words;
-        let from = plan.start;
-        to = put_plan(types, to, plan);
-        if follow != 0 {
-            to = write_words(table, n, used, child, from, follow, types, to);
+        if found.child == 0 {
+            types[to] = WORD_CODE as u16;
+            to += 1;
+        } else {
+            to = write_planned(table, n, used, found.child, types, to);
         }
         i += 1;
     }

@@ -1,5 +1,5 @@
 -- `type_walk::leaves::write_gap` meets its contract: `Writing` holds before each word, and the child to look at stays. Assumes nothing.
-use Prim.Native.Nat.{_-_}
+use Prim.Native.Nat.{ℕ, _-_}
 use mathlib.Core.Path.{_≡_, refl, _∙_}
 use mathlib.Core.Logic.{⊎-elim}
 use native.Mathlib.Omega.{arith}
@@ -12,9 +12,13 @@ use Rattle.type_walk.proofs.WriteLaws.{writing-start, gap-fits, gap-nex
 use Rattle.type_walk.proofs.leaves.write_gap.Statement.{statement}
 use Rattle.type_walk.proofs.leaves.write_gap.Tie as tie
 
+-- a key that no word comes to
+abbrev keyEnd : ℕ
+keyEnd = 4294967295
+
 abbrev Inv-loop : tie.InvT-loop
 Inv-loop table n used r start words first types₀ at done₀ to₀ end types done to =
-    Writing table used r start words types₀ at types to first done × ((first ≡ 0 → ⊥) → end ≡ keyOf table first)
+    Writing table used r start words types₀ at types to first done × ((first ≡ 0 → ⊥) → end ≡ keyOf table first) × (first ≡ 0 → end ≡ keyEnd)
 
 abbrev μ-loop : tie.MeasureT-loop
 μ-loop table n used r start words first types₀ at done₀ to₀ end types done to = words - done
@@ -25,8 +29,11 @@ field-requires c κs =
 
 loop-holds : tie.Need-loop-holds Inv-loop μ-loop
 loop-holds c =
-    let s = c .before .before .before in
-    (writing-start _ _ _ _ _ _ _ _ (s .pre .1 .1 .0), ⊎-elim (λ w n. w .2 ∙ w .1 .ensures) (λ w n. absurd (n (w .0 .left))) (c .if1 .came))
+    let s = c .before .before .before in (
+      writing-start _ _ _ _ _ _ _ _ (s .pre .1 .1 .0),
+      ⊎-elim (λ w n. w .2 ∙ w .1 .ensures) (λ w n. absurd (n (w .0 .left))) (c .if1 .came),
+      ⊎-elim (λ w z. absurd (w .0 .taken z)) (λ w z. w .1) (c .if1 .came),
+    )
 
 -- the numbers of the words are small
 add-if2 : tie.Need-add-if2 Inv-loop μ-loop
@@ -43,7 +50,8 @@ same-length c =
 
 returns : tie.Need-returns Inv-loop μ-loop
 returns c =
-    c .before .before .loop .inv .0
+    let i = c .before in let l = i .before in let s = l .before .before .before .before in
+    (l .loop .inv .0, λ z. let e = l .loop .inv .2 z in let a = c .if2 .taken in let h = s .pre .1 .0 .2 in let t = i .loop-test .taken in absurd (omega arith))
 
 -- there is room for the code
 mul-types : tie.Need-mul-types Inv-loop μ-loop
@@ -73,7 +81,7 @@ loop-less c =
 loop-again : tie.Need-loop-again Inv-loop μ-loop
 loop-again c =
     let i = c .before in let l = i .before in let s = l .before .before .before .before in
-    (gap-next _ _ _ _ _ _ (s .pre .0) (s .pre .1 .0 .0) (s .pre .1 .0 .1) _ _ _ _ _ _ (l .loop .inv .0) (i .loop-test .taken) _ (l .loop .inv .1) (c .if2 .left) _ _ refl refl, l .loop .inv .1)
+    (gap-next _ _ _ _ _ _ (s .pre .0) (s .pre .1 .0 .0) (s .pre .1 .0 .1) _ _ _ _ _ _ (l .loop .inv .0) (i .loop-test .taken) _ (l .loop .inv .1) (c .if2 .left) _ _ refl refl, l .loop .inv .1, l .loop .inv .2)
 
 same-length-2 : tie.Need-same-length-2 Inv-loop μ-loop
 same-length-2 c =
@@ -81,7 +89,7 @@ same-length-2 c =
 
 returns-2 : tie.Need-returns-2 Inv-loop μ-loop
 returns-2 c =
-    c .before .loop .inv .0
+    let l = c .before in (l .loop .inv .0, λ z. let m = l .loop .inv .0 .most in let t = c .loop-test .left in omega arith)
 
 pub write-gap-spec : {M : Type 1} → statement M
 write-gap-spec =
