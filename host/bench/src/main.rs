@@ -6,7 +6,7 @@
 mod scenes;
 
 use argcol::{
-    STEP, TYPES,
+    ENTRY, RECORD, SLOT, STEP, TYPES,
     raw::{self, Head},
 };
 use published::timed::{Closer, Stepper};
@@ -64,7 +64,14 @@ fn repeated<T>(mut call: impl FnMut() -> T) -> f64 {
 
 /// A sum that the compiler vectorizes.
 fn sum(numbers: &[u32]) -> u32 {
-    numbers.iter().fold(0, |sum, number| sum.wrapping_add(*number))
+    let (lines, rest) = numbers.as_chunks::<16>();
+    let mut sums = [0u32; 16];
+    for line in lines {
+        for (sum, number) in sums.iter_mut().zip(line) {
+            *sum = sum.wrapping_add(*number);
+        }
+    }
+    sums.iter().chain(rest).fold(0, |sum, number| sum.wrapping_add(*number))
 }
 
 /// A sum that ends early if it overflows, and so goes one by one; four to a turn, so that the loop itself costs nothing.
@@ -137,49 +144,66 @@ fn ns(value: f64) -> String {
 }
 
 fn steps() {
-    title("Steps", "step | records | used | slots/entries | ours | Rust | ours/Rust | one by one | vectorized | ours/one by one | ours/vectorized");
+    title("Steps", STEPS);
     for records in [16, 64, 1_480, 16_384] {
         for (slots, entries) in [(16, 4), (1_024, 1_024)] {
             // with fewer than two free records a step looks its paths up once more, to count those that are missing
             for used in [records, records - 2, 4] {
-                let scene = Scene::new(Shape::Wide, used, records).with(slots, entries);
-                let read = reads(&[&scene.table, &scene.stack, &scene.memory, &[0; STEP]]);
-                for (name, step) in scene.steps() {
-                    let (ours, after) = our_step(&scene, &step);
-                    let mut rust = 0.0;
-                    if published::AT_HAND {
-                        let (stack, memory, handed) = scene.published(&step);
-                        let mut stepper = Stepper::new(&scene.code, &scene.state(), &stack, &memory, &handed);
-                        rust = least(|calls| stepper.batch(calls));
-                        assert!(stepper.state() == after.state(), "the same facts on both sides");
-                    }
-                    let shown = [
-                        name.to_string(),
-                        records.to_string(),
-                        scene.head.used.to_string(),
-                        format!("{slots}/{entries}"),
-                        ns(ours),
-                        ns(rust),
-                        ratio(ours, rust),
-                    ];
-                    let read = [ns(read.one_by_one), ns(read.vectorized), ratio(ours, read.one_by_one), ratio(ours, read.vectorized)];
-                    row(&[&shown[..], &read].concat());
-                }
+                steps_on(&Scene::new(Shape::Wide, used, records).with(slots, entries), &[0, 1, 2, 3]);
             }
         }
+    }
+    title("Steps, facts in no order", STEPS);
+    for records in [64, 1_480, 16_384] {
+        for used in [records, records - 2] {
+            steps_on(&Scene::new(Shape::Scattered, used, records).with(16, 4), &[0, 3]);
+        }
+    }
+}
+
+const STEPS: &str = "step | records | used | slots/entries | ours | Rust | ours/Rust | one by one | vectorized | ours/one by one | ours/vectorized";
+
+/// The rows of some of the scene's steps.
+fn steps_on(scene: &Scene, which: &[usize]) {
+    let read = reads(&[&scene.table, &scene.stack, &scene.memory, &[0; STEP]]);
+    for (name, step) in which.iter().map(|i| scene.steps()[*i]) {
+        let (ours, after) = our_step(scene, &step);
+        let mut rust = 0.0;
+        if published::AT_HAND {
+            let (stack, memory, handed) = scene.published(&step);
+            let mut stepper = Stepper::new(&scene.code, &scene.state(), &stack, &memory, &handed);
+            rust = least(|calls| stepper.batch(calls));
+            assert!(stepper.state() == after.state(), "the same facts on both sides");
+        }
+        let shown = [
+            name.to_string(),
+            (scene.table.len() / RECORD).to_string(),
+            scene.head.used.to_string(),
+            format!("{}/{}", scene.stack.len() / SLOT, scene.memory.len() / ENTRY),
+            ns(ours),
+            ns(rust),
+            ratio(ours, rust),
+        ];
+        let read = [ns(read.one_by_one), ns(read.vectorized), ratio(ours, read.one_by_one), ratio(ours, read.vectorized)];
+        row(&[&shown[..], &read].concat());
     }
 }
 
 fn closings() {
     title("Closings", "entries | facts | records | ours | Rust | ours/Rust");
     for entries in [1, 64, 4_064] {
-        for sparse in [false, true] {
+        // a fact for each word, one for the last word, one for each in no order
+        for facts in ["each", "last", "no order"] {
             for records in [entries + 1, 1_480, 16_384] {
-                let used = if sparse { 2 } else { entries + 1 };
-                if records < used || (sparse && entries == 1) {
+                let used = if facts == "last" { 2 } else { entries + 1 };
+                if records < used || (facts != "each" && entries == 1) {
                     continue;
                 }
-                let scene = if sparse { Scene::lone(entries, records) } else { Scene::new(Shape::Wide, used, records) };
+                let (scene, order) = match facts {
+                    "each" => (Scene::new(Shape::Wide, used, records), ""),
+                    "last" => (Scene::lone(entries, records), ""),
+                    _ => (Scene::new(Shape::Scattered, used, records), " in no order"),
+                };
                 let ours = our_closing(&scene);
                 let mut rust = 0.0;
                 if published::AT_HAND {
@@ -187,7 +211,7 @@ fn closings() {
                     assert_eq!(argcol::text(&scene.list()), Ok(closer.text()), "the same list on both sides");
                     rust = least(|calls| closer.batch(calls));
                 }
-                row(&[entries.to_string(), (used - 1).to_string(), records.to_string(), ns(ours), ns(rust), ratio(ours, rust)]);
+                row(&[entries.to_string(), format!("{}{order}", used - 1), records.to_string(), ns(ours), ns(rust), ratio(ours, rust)]);
             }
         }
     }

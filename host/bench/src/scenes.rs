@@ -129,10 +129,13 @@ impl Scene {
     pub fn state(&self) -> State {
         let paths = self.paths();
         let records = || self.table.chunks(RECORD).zip(&paths[1..]);
-        let facts =
-            records().map(|(f, path)| Fact { path: path.clone(), kind: f[7], count: f[8], name: f[9], confidence: f[10], blocked: f[6] == 1 });
+        let fact =
+            |(f, path): (&[u32], &Path)| Fact { path: path.clone(), kind: f[7], count: f[8], name: f[9], confidence: f[10], blocked: f[6] == 1 };
+        let mut facts: Vec<Fact> = records().map(fact).collect();
+        // the published source's order, whatever the numbers
+        facts.sort_by(|a, b| a.path.cmp(&b.path));
         let not_bool = records().filter(|(f, _)| f[5] == 1).map(|(_, path)| path.clone());
-        State { facts: facts.collect(), not_bool: not_bool.collect(), active: self.head.active == 1 }
+        State { facts, not_bool: not_bool.collect(), active: self.head.active == 1 }
     }
 
     /// Stack, memory and step in the published source's terms.
