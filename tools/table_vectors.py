@@ -131,11 +131,21 @@ def links():
     base = table(5, [(1, 0, S), (1, 32, S), (1, 64, S)])
     for label, changes in (('cycle', {(4, NEXT): 2}), ('cycle of one', {(2, NEXT): 2}), ('orphan', {(3, NEXT): 0}), ('record met twice', {(2, CHILD): 3}),
                            ('chain into another', {(4, NEXT): 3}), ('falling keys', {(2, KEY): 33}), ('parent of a lower chain', {(4, PARENT): 2}),
-                           ('next past used', {(4, NEXT): 5}), ('child is the root', {(4, CHILD): 1}), ('parent is itself', {(4, PARENT): 4})):
-        changed = list(base)
-        for (r, f), v in changes.items():
-            changed[(r - 1) * WIDTH + f] = v
-        add(label, changed, 4)
+                           ('next past used', {(4, NEXT): 5}), ('child is the root', {(4, CHILD): 1}), ('parent is itself', {(4, PARENT): 4}),
+                           ('two lead to one', {(2, NEXT): 4}), ('first is not the least', {(1, CHILD): 3}), ('none leads to the first', {(1, CHILD): 0})):
+        add(label, altered(base, changes), 4)
+    # as many links as records, or keys that add up, are not enough
+    base = table(5, [(1, 0, S), (1, 32, S), (1, 64, S), (1, 96, S)])
+    add('a link twice, keys that do not add up', altered(base, {(2, NEXT): 4}), 5)
+    add('keys that add up, a link short', altered(base, {(2, NEXT): 0, (3, NEXT): 5, (4, NEXT): 5}), 5)
+    add('orphan in a chain of its own', altered(base, {(2, NEXT): 4, (3, NEXT): 5}), 5)
+
+
+def altered(numbers, changes):
+    changed = list(numbers)
+    for (r, f), v in changes.items():
+        changed[(r - 1) * WIDTH + f] = v
+    return changed
 
 
 def random_tables():

@@ -1,5 +1,5 @@
 -- Lists with no number twice, and the counting argument: such a list within another is no longer than it, and the rest makes up the sums. Assumes nothing.
-use Prim.Native.Nat.{ℕ, zero, suc, _+_, _-_, _≤_, _<_, zero-le}
+use Prim.Native.Nat.{ℕ, zero, suc, _+_, _-_, _≤_, _<_}
 use mathlib.Core.Path.{_≡_, refl, sym, ap, _∙_, subst}
 use mathlib.Core.Logic.{_⊎_, inl, inr, ⊎-elim}
 use mathlib.Core.List.{List, [], _∷_}
@@ -117,14 +117,7 @@ all-in n l d b e r h k = go (in-dec r l)
         let q = length-span n in
         absurd (omega arith)
 
--- no more than n of them
-pub at-most : (n : ℕ) (l : List ℕ) → NoDup l → ((y : ℕ) → In y l → (1 < y) × (y ≤ n + 1)) → length l ≤ n
-at-most n l d b =
-    let s = sub-length l (span n) d (λ y m. let g = b y m in span-in n y (g .0) (g .1)) in
-    let q = length-span n in
-    omega arith
-
--- and no less, if they are all there
+-- a list that has them all is no shorter
 pub at-least : (n : ℕ) (l : List ℕ) → ((r : ℕ) → 1 < r → r ≤ n + 1 → In r l) → n ≤ length l
 at-least n l f =
     let s = sub-length (span n) l (span-nodup n) (λ y i. let g = in-span n y i in f y (g .0) (g .1)) in

@@ -79,14 +79,71 @@ joined-all t start i any end J h m w = go (eqb any 0) refl
     go true e = λ j a l. J .zeros (eqb-true any 0 e) .all j a (omega arith) (omega arith)
     go false e = λ Z. eqb-false any 0 e (J .zero (record { low = J .low; all = λ j a k _. Z j a (omega arith) }))
 
+-- the same for two parts, passed beside each other
+pub record Paired (t : List ℕ) (start part k any : ℕ) : Type 0 where
+  pub few : k ≤ part
+  pub zeros : any ≡ 0 → Passed (Zero t) start (start + k) × Passed (Zero t) (start + part) (start + part + k)
+  pub zero : Passed (Zero t) start (start + k) → Passed (Zero t) (start + part) (start + part + k) → any ≡ 0
+
+pub paired-none : (t : List ℕ) (start part : ℕ) → Paired t start part 0 0
+paired-none t start part = record { few = omega arith; zeros = λ e. (none start, none (start + part)); zero = λ P Q. refl }
+  where
+    none : (i : ℕ) → Passed (Zero t) i (i + 0)
+    none i = record { low = omega arith; all = λ j a h. absurd (omega arith) }
+
+module _ (t : List ℕ) (i k : ℕ) where
+  -- one more, and one less
+  more : Passed (Zero t) i (i + k) → getD t (i + k) 0 ≡ 0 → Passed (Zero t) i (i + (k + 1))
+  more P e = let q : i + k + 1 ≡ i + (k + 1) = omega arith in rw q at (passed-more (Zero t) i (i + k) P (λ _. e))
+
+  less : Passed (Zero t) i (i + (k + 1)) → Passed (Zero t) i (i + k)
+  less P = record { low = omega arith; all = λ j a h. P .all j a (omega arith) }
+
+  last : Passed (Zero t) i (i + (k + 1)) → i + k < length t → getD t (i + k) 0 ≡ 0
+  last P l = P .all (i + k) (omega arith) (omega arith) l
+
+pub paired-more : (t : List ℕ) (start part k any : ℕ) → Paired t start part k any → k < part → start + (part + part) ≤ length t
+    → Paired t start part (k + 1) (bitOr (bitOr any (getD t (start + k) 0)) (getD t (start + part + k) 0))
+paired-more t start part k any J l w = record {
+  few = omega arith;
+  zeros = λ e.
+      let y = or-zeros (bitOr any (getD t (start + k) 0)) (getD t (start + part + k) 0) e in
+      let x = or-zeros any (getD t (start + k) 0) (y .0) in
+      let z = J .zeros (x .0) in
+      (more t start k (z .0) (x .1), more t (start + part) k (z .1) (y .1));
+  zero = λ P Q.
+      zeros-or (bitOr any (getD t (start + k) 0)) (getD t (start + part + k) 0)
+      (zeros-or any (getD t (start + k) 0) (J .zero (less t start k P) (less t (start + part) k Q)) (last t start k P (omega arith)))
+      (last t (start + part) k Q (omega arith));
+}
+
+pub paired-all : (t : List ℕ) (start part k any : ℕ) → Paired t start part k any → part ≤ k → start + (part + part) ≤ length t
+    → Tells (eqb any 0) (ZeroBetween t start (start + (part + part)))
+paired-all t start part k any J m w = go (eqb any 0) refl
+  where
+    end : k ≡ part
+    end = let f = J .few in omega arith
+
+    go : (b : Bool) → eqb any 0 ≡ b → Tells b (ZeroBetween t start (start + (part + part)))
+    go true e = λ j a h.
+        let z = J .zeros (eqb-true any 0 e) in
+        let q = end in
+        ⊎-elim (λ l. z .0 .all j a (omega arith) (omega arith)) (λ l. z .1 .all j l (omega arith) (omega arith)) (lt-or-ge j (start + part))
+    go false e = λ Z.
+        let q = end in
+        eqb-false any 0 e
+        (J .zero (record { low = omega arith; all = λ j a h _. Z j a (omega arith) }) (record { low = omega arith; all = λ j a h _. Z j (omega arith) (omega arith) }))
+
 -- zero up to a place and from there on
 pub zero-both : (t : List ℕ) (start line : ℕ) → ZeroBetween t start line → ZeroBetween t line (length t) → ZeroFrom t start
 zero-both t start line A B i h l = ⊎-elim (λ k. A i h k) (λ k. B i k l) (lt-or-ge i line)
 
-pub zero-first : (t : List ℕ) (start line : ℕ) → line ≤ length t → ZeroFrom t start → ZeroBetween t start line
-zero-first t start line w Z i h l = Z i h (omega arith)
+-- and so is each part
+pub zero-part : (t : List ℕ) (start low end : ℕ) → start ≤ low → end ≤ length t → ZeroFrom t start → ZeroBetween t low end
+zero-part t start low end s w Z i h l = Z i (omega arith) (omega arith)
 
--- the second part alone decides, once the first is zero
-pub zero-rest : (t : List ℕ) (start line : ℕ) (b : Bool) → start ≤ line → ZeroBetween t start line → Tells b (ZeroBetween t line (length t)) → Tells b (ZeroFrom t start)
-zero-rest t start line true s A B = zero-both t start line A B
-zero-rest t start line false s A B = λ Z. B (λ i h l. Z i (omega arith) l)
+-- the last part alone decides, once those before it are zero
+pub zero-rest : (t : List ℕ) (start line end : ℕ) (b : Bool) → start ≤ line → line ≤ end → ZeroBetween t start line → ZeroBetween t line end
+    → Tells b (ZeroBetween t end (length t)) → Tells b (ZeroFrom t start)
+zero-rest t start line end true s m A B C = zero-both t start line A (λ i h l. ⊎-elim (λ k. B i h k) (λ k. C i k l) (lt-or-ge i end))
+zero-rest t start line end false s m A B C = λ Z. C (zero-part t start end (length t) (omega arith) (omega arith) Z)

@@ -1,6 +1,6 @@
 -- What question 2's test of the chains adds up: records and the links that lead to them, each link as much as its record. `weighed-chained` shows
 -- that the links lead to every record but the root just where both sides are equal. Assumes nothing: these are definitions.
-use Prim.Native.Nat.{ℕ, _+_, _^_, _*_, _≤_, _<_}
+use Prim.Native.Nat.{ℕ, _+_, _^_, _≤_, _<_}
 use mathlib.Core.Path.{_≡_}
 use mathlib.Core.Bool.{cond}
 use mathlib.Core.List.{List}

@@ -1,5 +1,5 @@
 -- `facts::links::are_chained_records` meets its contract: `Added` holds before each record. Assumes nothing.
-use Prim.Native.Nat.{ℕ, _+_, _-_, _≤_, _<_}
+use Prim.Native.Nat.{ℕ, _+_, _-_, _<_}
 use mathlib.Core.Path.{_≡_, sym, _∙_}
 use mathlib.Core.Bool.{true, true≢false}
 use mathlib.Core.List.{List}

@@ -3,7 +3,6 @@ use native.Mathlib.Omega.{arith}
 use denote.Ref.{now}
 use borrow.Author.Needs.{needs}
 use borrow.Author.Tests.{not-true, not-false}
-use Rattle.limits.specs.Limits.{recordWidth}
 use Rattle.facts.specs.Table.{parentOf, HasRecord}
 use Rattle.facts.specs.Links.{Kid}
 use Rattle.facts.proofs.Weights.{next-none, next-not, next-low, next-some}
