@@ -17,10 +17,10 @@ use Rattle.facts.proofs.Weights.{weight-is, link-none, link-some}
 use Rattle.limits.specs.Limits.{recordWidth, recordsMax}
 use Rattle.facts.specs.Table.{keyOf, parentOf, childOf, nextOf}
 use Rattle.facts.specs.State.{nodeAt}
-use Rattle.facts.specs.Links.{Kid, In, Seg, Rising, ChainOf, Chained}
+use Rattle.facts.specs.Links.{Kid, In, Seg, Rising, ChainOf, Chained, First}
 use Rattle.facts.specs.Fact.{isRecord, isUnderSeen, isRoot, AreRecords}
 use Rattle.facts.specs.Sound.{Tells}
-use Rattle.facts.specs.Weights.{linkWeight, weightEnd, weight, linkTo, ChildFits, NextFits, Under}
+use Rattle.facts.specs.Weights.{linkWeight, weightEnd, weight, linkTo, Leads, Under}
 
 -- what the link to the one behind r weighs
 abbrev pub onward : List ℕ → ℕ → ℕ
@@ -35,22 +35,22 @@ firsts t (suc n) = firsts t n + linkTo t (childOf t (suc n))
 pub record Fits (t : List ℕ) (u r : ℕ) : Type 0 where
   pub under : Under t r
   pub fact : isRecord (nodeAt t r) ≡ true
-  pub child : ChildFits t u r
-  pub next : NextFits t u r
-  pub light : linkTo t (nextOf t r) < weightEnd
+  pub child : Leads t u r 0 (childOf t r)
+  pub next : Leads t u (parentOf t r) (weight t r) (nextOf t r)
+  pub light : onward t r < weightEnd
 
 -- before record r: those before it fit, their links and the records themselves are added up
 pub record Added (t : List ℕ) (u r links records : ℕ) : Type 0 where
   pub low : 2 ≤ r
   pub high : r ≤ u + 1
-  pub root : ChildFits t u 1
+  pub root : Leads t u 1 0 (childOf t 1)
   pub fits : (q : ℕ) → 1 < q → q < r → Fits t u q
   pub links-are : links ≡ firsts t (r - 1) + total (onward t) (span (r - 2))
   pub records-are : records ≡ total (weight t) (span (r - 2))
   pub links-end : links ≤ r * (2 * weightEnd)
   pub records-end : records ≤ r * weightEnd
 
-pub added-start : (t : List ℕ) (u w : ℕ) → 1 ≤ u → ChildFits t u 1 → w ≡ linkTo t (childOf t 1) → w < weightEnd → Added t u 2 w 0
+pub added-start : (t : List ℕ) (u w : ℕ) → 1 ≤ u → Leads t u 1 0 (childOf t 1) → w ≡ 0 + linkTo t (childOf t 1) → w < 0 + weightEnd → Added t u 2 w 0
 unfolding firsts total span
 added-start t u w h C e l = record {
   low = omega arith;
@@ -63,8 +63,8 @@ added-start t u w h C e l = record {
   records-end = omega arith;
 }
 
-pub added-more : (t : List ℕ) (u r links records c n w : ℕ) → Added t u r links records → r ≤ u → Fits t u r → c ≡ linkTo t (childOf t r) → c < weightEnd
-    → n ≡ linkTo t (nextOf t r) → w ≡ weight t r → w < weightEnd → Added t u (r + 1) (links + (c + n)) (records + w)
+pub added-more : (t : List ℕ) (u r links records c n w : ℕ) → Added t u r links records → r ≤ u → Fits t u r → c ≡ links + linkTo t (childOf t r)
+    → c < links + weightEnd → n ≡ c + onward t r → w ≡ weight t r → w < weightEnd → Added t u (r + 1) n (records + w)
 unfolding firsts total span
 added-more t u r links records c n w A h F ce cl ne we wl =
     let lo = A .low in
@@ -225,12 +225,47 @@ module _ (t : List ℕ) where
   nothing f [] e = refl
   nothing f (x ∷ l) e = absurd (omega arith)
 
+-- the first of p's chain, if there is one, is a child of p by its own fields
+abbrev ChildFits : List ℕ → ℕ → ℕ → Type 0
+ChildFits t u p = (childOf t p ≡ 0 → ⊥) → Kid t u p (childOf t p)
+
+-- the one behind r, if there is one, is a child of r's parent by its own fields, with a higher key
+abbrev NextFits : List ℕ → ℕ → ℕ → Type 0
+NextFits t u r = (nextOf t r ≡ 0 → ⊥) → Kid t u (parentOf t r) (nextOf t r) × (keyOf t r < keyOf t (nextOf t r))
+
+-- a record that weighs more has a higher key
+weight-key : (t : List ℕ) (r s : ℕ) → weight t r < weight t s → keyOf t r < keyOf t s
+weight-key t r s h = let a = weight-is t r in let b = weight-is t s in omega arith
+
+key-weight : (t : List ℕ) (r s : ℕ) → keyOf t r < keyOf t s → weight t r < weight t s
+key-weight t r s h = let a = weight-is t r in let b = weight-is t s in omega arith
+
+-- the link to the next one weighs nothing, or more than the record
+rise : (t : List ℕ) (u p r : ℕ) → Leads t u p (weight t r) (nextOf t r) → (onward t r ≡ 0) ⊎ (weight t r < onward t r)
+rise t u p r L = go (ℕ-discrete (nextOf t r) 0)
+  where
+    go : Dec (nextOf t r ≡ 0) → (onward t r ≡ 0) ⊎ (weight t r < onward t r)
+    go (yes z) = inl (link-none t (nextOf t r) z)
+    go (no n) = inr (let k = L n .2 in let a = link-some t (nextOf t r) n in omega arith)
+
 -- the chain of p, from c on, with keys from b on
 record Partly (t : List ℕ) (u p b c : ℕ) : Type 0 where
   members : List ℕ
   seg : Seg t c members 0
   rising : Rising t b members
   kids : (m : ℕ) → In m members → Kid t u p m
+
+-- where each record's parent has a lower number, a link leads to a child of its parent
+module _ (t : List ℕ) (u : ℕ) (R : isRoot t ≡ true) (up : (q : ℕ) → 1 < q → q ≤ u → parentOf t q < q) where
+  kid-of : (p c : ℕ) → 1 ≤ p → (c ≡ 0 → ⊥) → c ≤ u → parentOf t c ≡ p → Kid t u p c
+  kid-of p c p1 n l e = record { above = go (eq-or-lt-of-le one); used = l; parent = e }
+    where
+      one : 1 ≤ c
+      one = omega arith
+
+      go : (1 ≡ c) ⊎ (1 < c) → p < c
+      go (inl z) = let h = is-root t R .parent in let k : parentOf t 1 ≡ p = rw (← z) at e in absurd (omega arith)
+      go (inr m) = let h = up c m l in omega arith
 
 module _ (t : List ℕ) (u p : ℕ) (p1 : 1 ≤ p) (fits : (q : ℕ) → 1 < q → q ≤ u → NextFits t u q) where
   end : (b c : ℕ) → c ≡ 0 → Partly t u p b c
@@ -273,11 +308,23 @@ module _ (t : List ℕ) (u links records : ℕ) (h : 1 ≤ u) (m : u ≤ records
       fits : (q : ℕ) → 1 < q → q ≤ u → Fits t u q
       fits q a b = A .fits q a (omega arith)
 
+      up : (q : ℕ) → 1 < q → q ≤ u → parentOf t q < q
+      up q a b = fits q a b .under .above
+
+      leads : (p : ℕ) → 1 ≤ p → p ≤ u → Leads t u p 0 (childOf t p)
+      leads p a b = ⊎-elim (λ (z : 1 ≡ p). rw (← z) (A .root)) (λ (l : 1 < p). fits p l b .child) (eq-or-lt-of-le a)
+
       child : (p : ℕ) → 1 ≤ p → p ≤ u → ChildFits t u p
-      child p a b = ⊎-elim (λ (z : 1 ≡ p). rw (← z) (A .root)) (λ (l : 1 < p). fits p l b .child) (eq-or-lt-of-le a)
+      child p a b n = let l = leads p a b n in kid-of t u R up p (childOf t p) a n (l .0) (l .1)
+
+      next : (q : ℕ) → 1 < q → q ≤ u → NextFits t u q
+      next q a b n =
+          let F = fits q a b in
+          let l = F .next n in
+          (kid-of t u R up (parentOf t q) (nextOf t q) (F .under .from) n (l .0) (l .1), weight-key t q (nextOf t q) (l .2))
 
       chains : (p : ℕ) → 1 ≤ p → p ≤ u → ChainOf t u p
-      chains p a b = chain-of t u p a (λ q x y. fits q x y .next) (child p a b)
+      chains p a b = chain-of t u p a next (child p a b)
 
       M : Met t u u
       M = met-all t u chains
@@ -286,12 +333,7 @@ module _ (t : List ℕ) (u links records : ℕ) (h : 1 ≤ u) (m : u ≤ records
       in-rest y i = let g = in-span (u - 1) y (parts t u chains h .within y i) in (g .0, let k = g .1 in omega arith)
 
       rises : (y : ℕ) → In y (parts t u chains h .rest) → (onward t y ≡ 0) ⊎ (weight t y < onward t y)
-      rises y i = let g = in-rest y i in go (ℕ-discrete (nextOf t y) 0) (fits y (g .0) (g .1) .next)
-        where
-          go : Dec (nextOf t y ≡ 0) → NextFits t u y → (onward t y ≡ 0) ⊎ (weight t y < onward t y)
-          go (yes z) f = inl (link-none t (nextOf t y) z)
-          go (no n) f =
-              inr (let k = f n .1 in let a = link-some t (nextOf t y) n in let b = weight-is t (nextOf t y) in let c = weight-is t y in omega arith)
+      rises y i = let g = in-rest y i in rise t u (parentOf t y) y (fits y (g .0) (g .1) .next)
 
       left : length (parts t u chains h .rest) ≡ 0
       left =
@@ -360,14 +402,23 @@ module _ (t : List ℕ) (u links records : ℕ) (h : 1 ≤ u) (m : u ≤ records
 
 -- what a chained table has at each record
 module _ (t : List ℕ) (u : ℕ) (C : Chained t u) where
-  pub chained-child : (p : ℕ) → 1 ≤ p → p ≤ u → ChildFits t u p
-  chained-child p p1 pu n = chained-linked t u C .child p p1 pu .kid n
+  pub chained-child : (p : ℕ) → 1 ≤ p → p ≤ u → Leads t u p 0 (childOf t p)
+  chained-child p p1 pu n =
+      let k = chained-linked t u C .child p p1 pu .kid n in
+      let e = weight-is t (childOf t p) in
+      (k .used, k .parent, omega arith)
 
-  pub chained-next : (r : ℕ) → 1 < r → r ≤ u → NextFits t u r
-  chained-next r r1 ru n =
+  -- the first after r's own key
+  after : (r : ℕ) → 1 < r → r ≤ u → First t u (parentOf t r) (keyOf t r + 1) (nextOf t r)
+  after r r1 ru =
       let g = C .up r r1 ru in
-      let F = chained-linked t u C .next (parentOf t r) r (g .0) (record { above = g .1; used = ru; parent = refl }) in
-      (F .kid n, let k = F .from n in omega arith)
+      chained-linked t u C .next (parentOf t r) r (g .0) (record { above = g .1; used = ru; parent = refl })
+
+  pub chained-next : (r : ℕ) → 1 < r → r ≤ u → Leads t u (parentOf t r) (weight t r) (nextOf t r)
+  chained-next r r1 ru n =
+      let F = after r r1 ru in
+      let k = F .kid n in
+      (k .used, k .parent, key-weight t r (nextOf t r) (let f = F .from n in omega arith))
 
   pub chained-under : AreRecords t u → (r : ℕ) → 1 < r → r ≤ u → Under t r
   chained-under A r r1 ru =

@@ -4,7 +4,6 @@ pub mod Distinct
 pub mod Chains
 mod Weights
 mod Check
-mod Scan
 mod Zeros
 mod Tests
 pub mod Whole

@@ -4,11 +4,10 @@ use mathlib.Core.Path.{_≡_, refl, sym, _∙_, subst}
 use mathlib.Core.List.{List}
 use native.Mathlib.Omega.{arith}
 use borrow.Author.Tests.{eq-eqb, ne-eqb}
-use Rattle.facts.specs.Table.{keyOf, parentOf, childOf, nextOf}
-use Rattle.facts.specs.Links.{Kid}
+use Rattle.facts.specs.Table.{keyOf, parentOf}
 use Rattle.facts.specs.declared.Link.{Link}
 use Rattle.facts.specs.declared.Link.the-variants.{Weight, Refused}
-use Rattle.facts.specs.Weights.{linkWeight, weightEnd, weight, linkTo, ChildFits, NextFits, Weighs}
+use Rattle.facts.specs.Weights.{linkWeight, weightEnd, weight, linkTo, Leads, Weighs}
 
 module _ (t : List ℕ) (c : ℕ) where
   pub weight-is : weight t c ≡ linkWeight + keyOf t c
@@ -23,36 +22,32 @@ module _ (t : List ℕ) (c : ℕ) where
   unfolding linkTo
   link-some n = rw (ne-eqb c 0 n) refl
 
--- the link to the first of p's chain
-module _ (t : List ℕ) (u p c : ℕ) (e : c ≡ childOf t p) where
-  pub child-none : c ≡ 0 → Weighs (Weight 0) (ChildFits t u p) t (childOf t p)
-  child-none z = ((λ n. absurd (n (sym e ∙ z))), sym (link-none t (childOf t p) (sym e ∙ z)), omega arith)
+-- a link that is refused
+module _ (t : List ℕ) (u p b c : ℕ) (n : c ≡ 0 → ⊥) where
+  pub lead-far : u < c → Leads t u p b c → ⊥
+  lead-far l f = let k = f n .0 in omega arith
 
-  pub child-not : (c ≡ 0 → ⊥) → (Kid t u p c → ⊥) → Weighs Refused (ChildFits t u p) t (childOf t p)
-  child-not n k f = k (rw e (f (λ z. n (e ∙ z))))
+  pub lead-other : (v : ℕ) → v ≡ parentOf t c → (v ≡ p → ⊥) → Leads t u p b c → ⊥
+  lead-other v e d f = d (e ∙ f n .1)
 
-  pub child-some : (c ≡ 0 → ⊥) → Kid t u p c → (w : ℕ) → w ≡ weight t c → w < weightEnd → Weighs (Weight w) (ChildFits t u p) t (childOf t p)
-  child-some n k w q l = ((λ _. rw (← e) k), rw (← e) (q ∙ sym (link-some t c n)), l)
+  pub lead-low : (w : ℕ) → w ≡ weight t c → w ≤ b → Leads t u p b c → ⊥
+  lead-low w e l f = let k = f n .2 in omega arith
 
--- the link to the one behind r
-module _ (t : List ℕ) (u r c : ℕ) (e : c ≡ nextOf t r) where
-  pub next-none : c ≡ 0 → Weighs (Weight 0) (NextFits t u r) t (nextOf t r)
-  next-none z = ((λ n. absurd (n (sym e ∙ z))), sym (link-none t (nextOf t r) (sym e ∙ z)), omega arith)
+-- a link that is added to the others
+module _ (t : List ℕ) (u p b c x : ℕ) where
+  pub lead-none : c ≡ 0 → Weighs (Weight x) (Leads t u p b c) t c x
+  lead-none z = let e = link-none t c z in ((λ n. absurd (n z)), omega arith, omega arith)
 
-  pub next-not : (c ≡ 0 → ⊥) → (Kid t u (parentOf t r) c → ⊥) → Weighs Refused (NextFits t u r) t (nextOf t r)
-  next-not n k f = k (rw e (f (λ z. n (e ∙ z)) .0))
+  pub lead-some : (c ≡ 0 → ⊥) → c ≤ u → (v : ℕ) → v ≡ parentOf t c → v ≡ p → (w : ℕ) → w ≡ weight t c → w < weightEnd → b < w
+      → Weighs (Weight (x + w)) (Leads t u p b c) t c x
+  lead-some n l v e d w q h k =
+      let s = link-some t c n in
+      ((λ _. (l, sym e ∙ d, omega arith)), omega arith, omega arith)
 
-  pub next-low : (c ≡ 0 → ⊥) → keyOf t c ≤ keyOf t r → Weighs Refused (NextFits t u r) t (nextOf t r)
-  next-low n h f = let g : keyOf t r < keyOf t c = rw e (f (λ z. n (e ∙ z)) .1) in omega arith
+-- what each answer says of a link to the number that was read
+module _ (l : Link) (t : List ℕ) (u p q b a c d x : ℕ) (W : Weighs l (Leads t u p b c) t c x) (e : p ≡ q) (g : b ≡ a) (f : c ≡ d) where
+  pub led : (w : ℕ) → l ≡ Weight w → Leads t u q a d × (w ≡ x + linkTo t d) × (w < x + weightEnd)
+  led w h = rw (← e, ← g, ← f) (subst (λ (y : Link). Weighs y (Leads t u p b c) t c x) h W)
 
-  pub next-some : (c ≡ 0 → ⊥) → Kid t u (parentOf t r) c → keyOf t r < keyOf t c → (w : ℕ) → w ≡ weight t c → w < weightEnd
-      → Weighs (Weight w) (NextFits t u r) t (nextOf t r)
-  next-some n k h w q l = ((λ _. rw (← e) (k, h)), rw (← e) (q ∙ sym (link-some t c n)), l)
-
--- what each answer says
-module _ (l : Link) (P : Type 0) (t : List ℕ) (c : ℕ) (W : Weighs l P t c) where
-  pub taken : (w : ℕ) → l ≡ Weight w → P × (w ≡ linkTo t c) × (w < weightEnd)
-  taken w e = subst (λ (x : Link). Weighs x P t c) e W
-
-  pub refused : l ≡ Refused → P → ⊥
-  refused e = subst (λ (x : Link). Weighs x P t c) e W
+  pub not-led : l ≡ Refused → Leads t u q a d → ⊥
+  not-led h = rw (← e, ← g, ← f) (subst (λ (y : Link). Weighs y (Leads t u p b c) t c x) h W)

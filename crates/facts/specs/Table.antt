@@ -74,10 +74,6 @@ pub record HasRecord (t : List ℕ) (r : ℕ) : Type 0 where
 pub record Blank (t : List ℕ) (r : ℕ) : Type 0 where
   pub zeros : (f : ℕ) → f < recordWidth → fld t r f ≡ 0
 
--- each number from place start to before place end is zero
-abbrev pub ZeroBetween : List ℕ → ℕ → ℕ → Type 0
-ZeroBetween t start end = (i : ℕ) → start ≤ i → i < end → getD t i 0 ≡ 0
-
 -- each number from place start on is zero
 abbrev pub ZeroFrom : List ℕ → ℕ → Type 0
 ZeroFrom t start = (i : ℕ) → start ≤ i → i < length t → getD t i 0 ≡ 0

@@ -5,8 +5,7 @@ use mathlib.Core.Path.{_≡_}
 use mathlib.Core.Bool.{cond}
 use mathlib.Core.List.{List}
 use lib.Dec.{eqb}
-use Rattle.facts.specs.Table.{keyOf, parentOf, childOf, nextOf, seenOf}
-use Rattle.facts.specs.Links.{Kid}
+use Rattle.facts.specs.Table.{keyOf, parentOf, seenOf}
 use Rattle.facts.specs.declared.Link.{Link}
 use Rattle.facts.specs.declared.Link.the-variants.{Weight, Refused}
 
@@ -26,13 +25,9 @@ weight t r = linkWeight + keyOf t r
 unfoldable pub linkTo : List ℕ → ℕ → ℕ
 linkTo t c = cond (eqb c 0) 0 (weight t c)
 
--- the first of p's chain, if there is one, is a child of p by its own fields
-abbrev pub ChildFits : List ℕ → ℕ → ℕ → Type 0
-ChildFits t u p = (childOf t p ≡ 0 → ⊥) → Kid t u p (childOf t p)
-
--- the one behind r, if there is one, is a child of r's parent by its own fields, with a higher key
-abbrev pub NextFits : List ℕ → ℕ → ℕ → Type 0
-NextFits t u r = (nextOf t r ≡ 0 → ⊥) → Kid t u (parentOf t r) (nextOf t r) × (keyOf t r < keyOf t (nextOf t r))
+-- c, 0 for none, stands in the chain of p by its own fields: used, with the parent p; and it weighs more than the one before
+abbrev pub Leads : List ℕ → ℕ → ℕ → ℕ → ℕ → Type 0
+Leads t u p before c = (c ≡ 0 → ⊥) → (c ≤ u) × (parentOf t c ≡ p) × (before < weight t c)
 
 -- the parent has a lower number, and is seen if r is
 pub record Under (t : List ℕ) (r : ℕ) : Type 0 where
@@ -40,7 +35,7 @@ pub record Under (t : List ℕ) (r : ℕ) : Type 0 where
   pub above : parentOf t r < r
   pub seen : seenOf t r ≤ seenOf t (parentOf t r)
 
--- the answer for a link to c that fits where P holds
-abbrev pub Weighs : Link → Type 0 → List ℕ → ℕ → Type 0
-Weighs (Weight w) P t c = P × (w ≡ linkTo t c) × (w < weightEnd)
-Weighs Refused P t c = P → ⊥
+-- the answer for a link to c, which is added to the others where P holds
+abbrev pub Weighs : Link → Type 0 → List ℕ → ℕ → ℕ → Type 0
+Weighs (Weight w) P t c links = P × (w ≡ links + linkTo t c) × (w < links + weightEnd)
+Weighs Refused P t c links = P → ⊥

@@ -1,14 +1,14 @@
 // The chains of question 2, and the tests of the records in them.
 ghost use mathlib.Core.Path.{_≡_};
 ghost use mathlib.Core.Bool.{true};
-ghost use Prim.Native.Nat.{_*_, _≤_, _<_};
+ghost use Prim.Native.Nat.{_+_, _*_, _^_, _≤_, _<_};
 ghost use lib.ListN.{length};
 ghost use Rattle.limits.specs.Limits.{recordWidth, recordsMax};
-ghost use Rattle.facts.specs.Table.{HasRecord, childOf, nextOf};
-ghost use Rattle.facts.specs.Links.{Kid, Chained};
+ghost use Rattle.facts.specs.Table.{HasRecord};
+ghost use Rattle.facts.specs.Links.{Chained};
 ghost use Rattle.facts.specs.Fact.{isRoot, AreRecords};
 ghost use Rattle.facts.specs.Sound.{Tells};
-ghost use Rattle.facts.specs.Weights.{weight, weightEnd, ChildFits, NextFits, Under, Weighs};
+ghost use Rattle.facts.specs.Weights.{weight, weightEnd, Leads, Under, Weighs};
 use crate::Link;
 use crate::fact::is_record;
 use crate::table::field;
@@ -20,23 +20,6 @@ use limits::fields::SEEN;
 
 // What a link weighs beside its key: more than all keys of a table together, 16,384 of them below 2^32.
 const LINK_WEIGHT: u64 = 140737488355328;
-
-// Is c a child of p by its own fields?
-fn is_kid(table: &[u32], used: u32, p: u32, c: u32) -> bool
-    requires { ⌜ used * recordWidth ≤ length (now table) ⌝ }
-    ensures { λ b. ⌜ Tells b (Kid (now (table .entry)) used p c) ⌝ }
-{
-    if c <= p {
-        return false;
-    }
-    if used < c {
-        return false;
-    }
-    if field(table, c, PARENT) != p {
-        return false;
-    }
-    true
-}
 
 // Has the parent a lower number, and is it seen if the record is?
 fn is_under(table: &[u32], r: u32) -> bool
@@ -64,39 +47,27 @@ fn weight_of(table: &[u32], r: u32) -> u64
     LINK_WEIGHT + field(table, r, KEY) as u64
 }
 
-// The link to the first record of p's chain.
-fn child_link(table: &[u32], used: u32, p: u32) -> Link
-    requires { ⌜ (1 ≤ p) × (p ≤ used) ⌝ }
+// What links of that weight come to with one more, to record c, 0 for none, which stands in the chain of p behind one that weighs so much. That its number is
+// higher than its parent's is asked of each record by itself.
+fn with_link(table: &[u32], used: u32, p: u32, before: u64, c: u32, links: u64) -> Link
     requires { ⌜ used * recordWidth ≤ length (now table) ⌝ }
-    ensures { λ l. ⌜ Weighs l (ChildFits (now (table .entry)) used p) (now (table .entry)) (childOf (now (table .entry)) p) ⌝ }
+    requires { ⌜ links + weightEnd ≤ 2 ^ 64 ⌝ }
+    ensures { λ l. ⌜ Weighs l (Leads (now (table .entry)) used p before c) (now (table .entry)) c links ⌝ }
 {
-    let c = field(table, p, CHILD);
     if c == 0 {
-        return Link::Weight(0);
+        return Link::Weight(links);
     }
-    if !is_kid(table, used, p, c) {
+    if used < c {
         return Link::Refused;
     }
-    Link::Weight(weight_of(table, c))
-}
-
-// The link to the record behind r in its chain.
-fn next_link(table: &[u32], used: u32, r: u32) -> Link
-    requires { ⌜ (1 ≤ r) × (r ≤ used) ⌝ }
-    requires { ⌜ used * recordWidth ≤ length (now table) ⌝ }
-    ensures { λ l. ⌜ Weighs l (NextFits (now (table .entry)) used r) (now (table .entry)) (nextOf (now (table .entry)) r) ⌝ }
-{
-    let c = field(table, r, NEXT);
-    if c == 0 {
-        return Link::Weight(0);
-    }
-    if !is_kid(table, used, field(table, r, PARENT), c) {
+    if field(table, c, PARENT) != p {
         return Link::Refused;
     }
-    if field(table, c, KEY) <= field(table, r, KEY) {
+    let weight = weight_of(table, c);
+    if weight <= before {
         return Link::Refused;
     }
-    Link::Weight(weight_of(table, c))
+    Link::Weight(links + weight)
 }
 
 // Does each used record but the root stand once in the chain of its parent, and nothing else in a chain, and do all pass their tests? One pass in the order
@@ -108,7 +79,7 @@ pub fn are_chained_records(table: &[u32], used: u32) -> bool
     requires { ⌜ isRoot (now table) ≡ true ⌝ }
     ensures { λ b. ⌜ Tells b (Chained (now (table .entry)) used × AreRecords (now (table .entry)) used) ⌝ }
 {
-    let Link::Weight(first) = child_link(table, used, 1) else {
+    let Link::Weight(first) = with_link(table, used, 1, 0, field(table, 1, CHILD), 0) else {
         return false;
     };
     let mut links = first;
@@ -118,17 +89,21 @@ pub fn are_chained_records(table: &[u32], used: u32) -> bool
         if !is_under(table, r) {
             return false;
         }
+        let child = field(table, r, CHILD);
+        let Link::Weight(down) = with_link(table, used, r, 0, child, links) else {
+            return false;
+        };
+        let own = weight_of(table, r);
+        let p = field(table, r, PARENT);
+        let next = field(table, r, NEXT);
+        let Link::Weight(on) = with_link(table, used, p, own, next, down) else {
+            return false;
+        };
         if !is_record(table, r) {
             return false;
         }
-        let Link::Weight(child) = child_link(table, used, r) else {
-            return false;
-        };
-        let Link::Weight(next) = next_link(table, used, r) else {
-            return false;
-        };
-        links += child + next;
-        records += weight_of(table, r);
+        links = on;
+        records += own;
         r += 1;
     }
     links == records

@@ -24,19 +24,10 @@ use Rattle.labels.specs.declared.Val.{Val}
 use Rattle.labels.specs.declared.Element.{Element}
 use Rattle.labels.specs.Label.{maskAt, valAt, labelAt, maskNumbers, valNumbers, labelNumbers}
 use Rattle.labels.specs.Step.{elementAt, elementNumbers}
-use Rattle.labels.specs.Formed.{allTo, zeros, isMask, isLabel}
+use Rattle.zeros.specs.Zeros.{zeros}
+use Rattle.zeros.proofs.Laws.{zeros-each}
+use Rattle.labels.specs.Formed.{isMask, isLabel}
 use Rattle.labels.proofs.Readings.{mask-there, no-mask, val-read, arg-read, zero-read, data-read, none-read, element-read}
-
--- where all below n pass, each does
-each-passes : (test : ℕ → Bool) (n : ℕ) → allTo test n ≡ true → (i : ℕ) → i < n → test i ≡ true
-unfolding allTo
-each-passes test zero e i l = absurd (omega arith)
-each-passes test (suc n) e i l =
-    let both = both-true (allTo test n) (test n) e in
-    ⊎-elim
-    (λ (q : i ≡ n). ap test q ∙ both .1)
-    (λ (h : i < n). each-passes test n (both .0) i h)
-    (eq-or-lt-of-le (let h : i ≤ n = omega arith in h))
 
 -- reading and then writing
 module _ (s : List ℕ) where
@@ -53,7 +44,7 @@ module _ (s : List ℕ) where
       (same-zeros n (suc i) (λ (k : ℕ) (l : k < n). let q : suc i + k ≡ i + suc k = omega arith in ap (λ (x : ℕ). getD s x 0) q ∙ z (suc k) (omega arith)))
 
   zeros-kept : (n i : ℕ) → zeros s i n ≡ true → sets s i (replicate n 0) ≡ s
-  zeros-kept n i e = same-zeros n i (λ (k : ℕ) (l : k < n). eqb-true _ 0 (each-passes _ n e k l))
+  zeros-kept n i e = same-zeros n i (zeros-each s i n e)
 
   module _ (small : (i : ℕ) → getD s i 0 < 2 ^ 32) (at : ℕ) where
     mask-kept : isMask s at ≡ true → sets s (at + labelMasked) (maskNumbers (maskAt s at)) ≡ s

@@ -11,7 +11,8 @@ use borrow.Author.Tests.{eq-eqb, ne-eqb, le-leb, lt-leb}
 use lib.Dec.{eqb, leb}
 use lib.ListN.{getD}
 use Rattle.limits.specs.Layout.{labelOffset, labelPath, labelMasked, labelMask, labelCallData, labelZeroTest, entryReplaced, entryLabel}
-use Rattle.labels.specs.Formed.{allTo, zeros, isMask, isLabel, isEntry}
+use Rattle.zeros.specs.Zeros.{allTo, zeros}
+use Rattle.labels.specs.Formed.{isMask, isLabel, isEntry}
 
 -- the first i pass, of n
 pub record Passed (test : ℕ → Bool) (n i : ℕ) : Type 0 where

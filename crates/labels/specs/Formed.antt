@@ -1,20 +1,12 @@
 -- Question 5: "Are all labels and replaced marks well formed, each path of kind 2 or 3 a used record?" Assumes nothing: these are definitions.
-use Prim.Native.Nat.{ℕ, zero, suc, _+_, _*_, _/_}
-use mathlib.Core.Bool.{Bool, true, cond, _&&_}
+use Prim.Native.Nat.{ℕ, _+_, _*_, _/_}
+use mathlib.Core.Bool.{Bool, cond, _&&_}
 use mathlib.Core.List.{List}
 use lib.Dec.{eqb, leb}
 use lib.ListN.{length, getD}
+use Rattle.zeros.specs.Zeros.{allTo, zeros}
 use Rattle.limits.specs.Between.{between}
 use Rattle.limits.specs.Layout.{labelOffset, labelPath, labelMasked, labelMask, labelCallData, labelZeroTest, slotWidth, slotLabel, entryWidth, entryReplaced, entryLabel}
-
--- do the numbers below n all pass?
-unfoldable pub allTo : (ℕ → Bool) → ℕ → Bool
-allTo test zero = true
-allTo test (suc n) = allTo test n && test n
-
--- are n numbers of s from `at` on all zero?
-abbrev pub zeros : List ℕ → ℕ → ℕ → Bool
-zeros s at n = allTo (λ i. eqb (getD s (at + i) 0) 0) n
 
 -- "masked (0 or 1)"; "an unmasked mask" has "zero in what they don't use"
 abbrev pub isMask : List ℕ → ℕ → Bool

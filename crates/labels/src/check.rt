@@ -3,7 +3,7 @@ ghost use mathlib.Core.Path.{_≡_};
 ghost use Prim.Native.Nat.{_+_, _*_, _/_, _≤_};
 ghost use lib.ListN.{length};
 ghost use Rattle.limits.specs.Layout.{labelWidth, entryWidth};
-ghost use Rattle.labels.specs.Formed.{zeros, isMask, isLabel, isEntry, areSlots, areEntries};
+ghost use Rattle.labels.specs.Formed.{isMask, isLabel, isEntry, areSlots, areEntries};
 use limits::layout::ENTRY_LABEL;
 use limits::layout::ENTRY_REPLACED;
 use limits::layout::ENTRY_WIDTH;
@@ -15,21 +15,7 @@ use limits::layout::LABEL_PATH;
 use limits::layout::LABEL_ZERO_TEST;
 use limits::layout::SLOT_LABEL;
 use limits::layout::SLOT_WIDTH;
-
-// Are n numbers of s from `at` on all zero?
-fn are_zero(s: &[u32], at: usize, n: usize) -> bool
-    requires { ⌜ at + n ≤ length (now s) ⌝ }
-    ensures { λ r. ⌜ r ≡ zeros (now (s .entry)) at n ⌝ }
-{
-    let mut i = 0;
-    while i < n {
-        if s[at + i] != 0 {
-            return false;
-        }
-        i += 1;
-    }
-    true
-}
+use zeros::are_zero;
 
 fn is_mask(s: &[u32], at: usize) -> bool
     requires { ⌜ at + labelWidth ≤ length (now s) ⌝ }

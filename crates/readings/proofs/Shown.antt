@@ -7,7 +7,8 @@ use Rattle.step.specs.Questions as step-asks
 use Rattle.closing.specs.Answer.{answerOf}
 use Rattle.closing.specs.Call as closing-asks
 use Rattle.closing.specs.Words.{fillWords, filled}
-use Rattle.labels.specs.Formed.{allTo, isLabel}
+use Rattle.zeros.specs.Zeros.{allTo}
+use Rattle.labels.specs.Formed.{isLabel}
 use Rattle.labels.specs.Label.{labelOf}
 use Rattle.labels.specs.Operands.{isLength, choose}
 use Rattle.labels.specs.Step.{stepOf}

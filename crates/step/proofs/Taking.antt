@@ -17,7 +17,8 @@ use Rattle.labels.specs.declared.Val.{Val}
 use Rattle.labels.specs.declared.Label.the-variants.{Unlabelled, CallData, Arg, IsZeroResult}
 use Rattle.labels.specs.declared.Step.{Step}
 use Rattle.labels.specs.Label.{valAt, labelOf, labelAt}
-use Rattle.labels.specs.Formed.{zeros, isMask, isLabel, areSlots, areEntries}
+use Rattle.zeros.specs.Zeros.{zeros}
+use Rattle.labels.specs.Formed.{isMask, isLabel, areSlots, areEntries}
 use Rattle.labels.specs.Step.{stepOf}
 use Rattle.analyze.specs.Machine.{Machine}
 use Rattle.analyze.specs.Phases.{activeAfter}

@@ -1,49 +1,73 @@
--- `facts::sound::is_zero_from`: zero up to the next line, in two parts behind it, and from there on. Assumes nothing.
+-- `facts::sound::is_zero_from`: before each block all numbers passed are zero. Assumes nothing.
+use Prim.Native.Nat.{_-_}
+use mathlib.Core.Path.{sym, _∙_}
 use native.Mathlib.Omega.{arith}
+use lib.ListN.{length}
 use denote.Ref.{now}
 use borrow.Author.Needs.{needs}
 use borrow.Author.Tests.{not-true, not-false}
-use Rattle.facts.proofs.Zeros.{zero-part, zero-rest}
+use Rattle.facts.proofs.Zeros.{Zeroed, zeroed-none, zeroed-more, zero-not, zero-rest}
 use Rattle.facts.proofs.sound.is_zero_from.Statement.{statement}
 use Rattle.facts.proofs.sound.is_zero_from.Tie as tie
 
-returns : tie.Need-returns
-returns c Z =
-    let r = c .before .is-zero-between in
+abbrev Inv-loop : tie.InvT-loop
+Inv-loop table start first at₀ at = Zeroed table start at
+
+abbrev μ-loop : tie.MeasureT-loop
+μ-loop table start first at₀ at = length table - at
+
+returns : tie.Need-returns Inv-loop μ-loop
+returns c =
+    let r = c .before .are-zero in
     let n = c .before .before in
-    (rw (not-true (r .result) (c .if1 .taken)) at (r .ensures)) (zero-part (now (n .before .before .args .table)) _ _ _ (omega arith) (n .next-line .ensures .1) Z)
+    let s = n .before .before in
+    zero-not (now (s .args .table)) _ _ _ (r .result) (omega arith) (let l = n .before-line .ensures in let w = s .pre in omega arith)
+    (r .ensures) (not-true (r .result) (c .if1 .taken))
 
-returns-2 : tie.Need-returns-2
-returns-2 c Z =
-    let r = c .before .are-zero-parts in
-    let n = c .before .before .before .before in
-    let l = n .next-line .ensures in
-    (rw (not-true (r .result) (c .if2 .taken)) at (r .ensures)) (zero-part (now (n .before .before .args .table)) _ _ _ (l .0) (let h = l .1 in omega arith) Z)
+loop-holds : tie.Need-loop-holds Inv-loop μ-loop
+loop-holds c =
+    let r = c .before .are-zero in
+    let n = c .before .before in
+    let w = n .before .before .pre in
+    zeroed-more _ _ _ _ (zeroed-none _ _ w) (let l = n .before-line .ensures in omega arith) (sym (r .ensures) ∙ not-false (r .result) (c .if1 .left))
 
-returns-3 : tie.Need-returns-3
-returns-3 c =
-    let e2 = c .before in
-    let p = e2 .before .are-zero-parts in
-    let e1 = e2 .before .before in
-    let r = e1 .before .is-zero-between in
-    let n = e1 .before .before in
-    zero-rest (now (n .before .before .args .table)) _ _ _ (c .is-zero-between2 .result) (n .next-line .ensures .0) (omega arith)
-    (rw (not-false (r .result) (e1 .if1 .left)) at (r .ensures)) (rw (not-false (p .result) (e2 .if2 .left)) at (p .ensures)) (c .is-zero-between2 .ensures)
+returns-2 : tie.Need-returns-2 Inv-loop μ-loop
+returns-2 c =
+    let r = c .before .are-zero2 in
+    let i = c .before .before in
+    let s = i .before .before .before .before .before .before in
+    let v = i .before .loop .inv in
+    zero-not (now (s .args .table)) _ _ _ (r .result) (v .low) (let h = v .high in let l = i .loop-test .taken in omega arith)
+    (r .ensures) (not-true (r .result) (c .if2 .taken))
+
+loop-again : tie.Need-loop-again Inv-loop μ-loop
+loop-again c =
+    let r = c .before .are-zero2 in
+    let i = c .before .before in
+    let v = i .before .loop .inv in
+    zeroed-more _ _ _ _ v (let h = v .high in let l = i .loop-test .taken in omega arith) (sym (r .ensures) ∙ not-false (r .result) (c .if2 .left))
+
+returns-3 : tie.Need-returns-3 Inv-loop μ-loop
+returns-3 c = let e = c .before .before in zero-rest _ _ _ (c .are-zero3 .result) (e .loop .inv) (c .are-zero3 .ensures)
 
 pub is-zero-from-spec : {M : Type 1} → statement M
 is-zero-from-spec =
     tie.close
     (tie.spec
+    Inv-loop
+    μ-loop
+    (λ c. search needs)
     (λ c κs. search needs)
     (λ c κs. search needs)
     returns
     (λ c. search needs)
-    (λ c. search needs)
-    (λ c. search needs)
+    loop-holds
     (λ c. search needs)
     (λ c κs. search needs)
     returns-2
     (λ c. search needs)
+    (λ c. search needs)
+    loop-again
     (λ c. search needs)
     (λ c κs. search needs)
     returns-3)
