@@ -3,13 +3,15 @@ ghost use mathlib.Core.Path.{_≡_};
 ghost use mathlib.Core.List.{[], _∷_, _++_};
 ghost use Prim.Native.Nat.{_+_, _≤_, _<_};
 ghost use Rattle.limits.specs.Limits.{recordsMax};
-ghost use Rattle.facts.specs.Table.{childOf, nextOf, parentOf};
-ghost use Rattle.facts.specs.Links.{Kid, Linked};
+ghost use Rattle.facts.specs.Table.{parentOf};
+ghost use Rattle.facts.specs.Links.{Linked};
 ghost use Rattle.facts.specs.State.{nodes, bare};
 ghost use Rattle.paths.specs.Shape.{Shaped};
 ghost use Rattle.paths.specs.Find.{findIn};
 ghost use Rattle.paths.specs.Place.{Before, Place};
 ghost use Rattle.paths.specs.Holds.{Holds};
+use crate::near::behind;
+use crate::near::start;
 use facts::field;
 use facts::set_field;
 use limits::fields::CHILD;
@@ -23,22 +25,9 @@ pub struct Spot {
     pub next: u32,
 }
 
-// The child of parent behind prev, the first one for 0.
-fn behind(table: &[u32], used: u32, parent: u32, prev: u32) -> u32
-    requires { ⌜ Linked (now table) used ⌝ }
-    requires { ⌜ (1 ≤ parent) × (parent ≤ used) ⌝ }
-    requires { ⌜ ((prev ≡ 0 → ⊥) → Kid (now table) used parent prev) ⌝ }
-    ensures { λ c. ⌜ (prev ≡ 0 → c ≡ childOf (now (table .entry)) parent) × ((prev ≡ 0 → ⊥) → c ≡ nextOf (now (table .entry)) prev) ⌝ }
-{
-    if prev == 0 {
-        return field(table, parent, CHILD);
-    }
-    field(table, prev, NEXT)
-}
-
 // Where a key stands or goes among the children of parent, looked for behind one with a lower key, or from the first on for 0. A record often stands in the chain right
 // behind the one before it: where it does, the walk counts on instead of waiting for the number that it loads.
-pub fn place(table: &[u32], used: u32, parent: u32, key: u32, after: u32) -> Spot
+fn place_behind(table: &[u32], used: u32, parent: u32, key: u32, after: u32) -> Spot
     requires { ⌜ Linked (now table) used ⌝ }
     requires { ⌜ (1 ≤ parent) × (parent ≤ used) ⌝ }
     requires { ⌜ Before (now table) used parent key after ⌝ }
@@ -62,6 +51,17 @@ pub fn place(table: &[u32], used: u32, parent: u32, key: u32, after: u32) -> Spo
         }
     }
     Spot { prev, next: 0 }
+}
+
+// The same, from where a walk does best to begin.
+pub fn place(table: &[u32], used: u32, parent: u32, key: u32, after: u32) -> Spot
+    requires { ⌜ Linked (now table) used ⌝ }
+    requires { ⌜ (1 ≤ parent) × (parent ≤ used) ⌝ }
+    requires { ⌜ Before (now table) used parent key after ⌝ }
+    ensures { λ s. ⌜ Place (now (table .entry)) used parent key (s .prev) (s .next) ⌝ }
+{
+    let near = start(table, used, parent, key, after);
+    place_behind(table, used, parent, key, near)
 }
 
 // The child of parent with that key, which stands at next if it is there, 0 else.

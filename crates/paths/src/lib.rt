@@ -3,6 +3,7 @@ mod depth;
 mod find;
 mod insert;
 mod make;
+mod near;
 mod node;
 mod seen;
 
@@ -26,4 +27,10 @@ pub use seen::make_seen;
 pub struct Reached {
     pub used: u32,
     pub number: u32,
+}
+
+// A child, 0 for none, and its key, 0 for none.
+pub struct Nearest {
+    pub child: u32,
+    pub key: u32,
 }

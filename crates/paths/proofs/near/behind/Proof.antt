@@ -1,9 +1,9 @@
--- `paths::insert::behind` meets its contract. Assumes nothing.
+-- `paths::near::behind` meets its contract. Assumes nothing.
 use native.Mathlib.Omega.{arith}
 use borrow.Author.Needs.{needs}
 use Rattle.paths.proofs.Walk.{kid-has}
-use Rattle.paths.proofs.insert.behind.Statement.{statement}
-use Rattle.paths.proofs.insert.behind.Tie as tie
+use Rattle.paths.proofs.near.behind.Statement.{statement}
+use Rattle.paths.proofs.near.behind.Tie as tie
 
 field-requires-2 : tie.Need-field-requires-2
 field-requires-2 c κs =

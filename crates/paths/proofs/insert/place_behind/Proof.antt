@@ -1,4 +1,4 @@
--- `paths::insert::place` meets its contract: `Spotting` holds before each run of the chain and before each record of a run. The keys left fall. Assumes nothing.
+-- `paths::insert::place_behind` meets its contract: `Spotting` holds before each run of the chain and before each record of a run. The keys left fall. Assumes nothing.
 use mathlib.Core.Path.{refl, sym, _∙_}
 use native.Mathlib.Omega.{arith}
 use borrow.Author.Needs.{needs}
@@ -6,8 +6,8 @@ use Rattle.facts.specs.Table.{keyOf}
 use Rattle.paths.proofs.Walk.{left, at-has, at-less}
 use Rattle.paths.proofs.RunLaws.{Run, run-start, run-next, run-end}
 use Rattle.paths.proofs.Spotting.{Spotting, spotting-start, spotting-next, spotted}
-use Rattle.paths.proofs.insert.place.Statement.{statement}
-use Rattle.paths.proofs.insert.place.Tie as tie
+use Rattle.paths.proofs.insert.place_behind.Statement.{statement}
+use Rattle.paths.proofs.insert.place_behind.Tie as tie
 
 abbrev Inv-loop2 : tie.InvT-loop2
 Inv-loop2 table used parent key after prev₀ next₀ c₀ prev next c = Spotting table used parent key prev c × Run table c₀ c
@@ -115,8 +115,8 @@ returns-2 c =
     let z = c .loop-test .left in
     rw z at (spotted _ _ _ _ (s .pre .0) (s .pre .1 .0 .0) (s .pre .1 .0 .1) _ _ (l .loop .inv) (λ n. absurd (n z)))
 
-pub place-spec : {M : Type 1} → statement M
-place-spec =
+pub place-behind-spec : {M : Type 1} → statement M
+place-behind-spec =
     tie.close
     (tie.spec
     Inv-loop2
