@@ -18,7 +18,7 @@ use std::{
 };
 
 /// All is timed so many times over; the last time through prints.
-const ROUNDS: usize = 4;
+const ROUNDS: usize = 12;
 
 #[derive(Default)]
 struct Rounds {
@@ -37,7 +37,7 @@ fn least(mut batch: impl FnMut(usize) -> Duration) -> f64 {
         calls *= 2;
     }
     let (start, mut best, mut count) = (Instant::now(), f64::MAX, 0);
-    while count < 20 || start.elapsed() < Duration::from_millis(80) {
+    while count < 20 || start.elapsed() < Duration::from_millis(30) {
         best = best.min(batch(calls).as_nanos() as f64 / calls as f64);
         count += 1;
     }
