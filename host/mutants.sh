@@ -4,6 +4,8 @@
 # The last line says how many were caught, how many make no difference as their titles say, and how many were missed.
 cd "$(dirname "$0")" || exit 1
 export CARGO_TARGET_DIR="${CARGO_TARGET_DIR:-target}/mutants"
+# the log of a build stands beside it
+mkdir -p "$CARGO_TARGET_DIR" || exit 1
 first=${1:-1}
 last=${2:-$(grep -c '^== ' published/mutants.txt)}
 caught=0 same=0 missed=0

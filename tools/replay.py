@@ -11,6 +11,7 @@ below say which sentence of document 01 or which lines of the Rust their traces 
 - has_dynamic, the bare array, the limit of 4,096, unseen records made seen: 'fill: ..'
 - which names hold, ends in bytes, pairs and arrays, key 0: 'type: ..'
 - the deepest nesting: 'deep: ..'
+- long chains that jump about: 'lookup: ..'
 
 Behind these come 240 whole runs of the published Rust's machine on generated contracts, 'published: ..', each with the list of its own `function_arguments`: the files
 published.stdin and published.stdout beside this script, which `host/target/release/harness sample 4 240` made (host/README.md).
@@ -347,6 +348,21 @@ def fills():
     add('fill: 2^27 words', load(0), code=push(TOP - 27, 4) + bytes([CALLDATASIZE, LT_OP]))
 
 
+def lookups():
+    """facts learnt in no order, so many of them that `paths::near` looks at all records, then a fill between and beyond them"""
+    shuffle = random.Random(33)
+    words = shuffle.sample(range(90), 50)
+    steps = [load(32 * w) for w in words]
+    for count in (0, 60, 100):
+        add(f'lookup: words in no order, {count} filled', *steps, code=direct(count))
+    add('lookup: words in no order, named', *steps, *(named(32 * w, 1, name) for w, name in ((89, 2), (0, 1), (44, 1016), (88, 3004), (1, 2128))))
+    # keys between two words, so that a fill goes over many of them
+    between = shuffle.sample(range(33, 64), 25) + shuffle.sample(range(97, 128), 25)
+    add('lookup: between the words', *(load(k) for k in between), code=direct(6))
+    add('lookup: between the words, not seen', load(0), *(step(ADD, arg(k), 1) for k in between), code=direct(6))
+    add('lookup: below a fact', dynamic(0), *(see(32 * w, 2) for w in words), see(32 * 90, 2), see(32 * 44, 2), code=direct(1))
+
+
 # ---- random traces
 
 R = random.Random(41)
@@ -400,7 +416,7 @@ def damages():
         raw(f'damaged: byte {at} is {byte} ({i})', data[:at] + bytes([byte]) + data[at + 1:])
 
 
-MAKERS = (sizes, order, cuts, refusals, full, bench, ruled_out, types, deep, fills, random_traces, damages)
+MAKERS = (sizes, order, cuts, refusals, full, bench, ruled_out, types, deep, fills, lookups, random_traces, damages)
 
 
 # ---- the files

@@ -5,7 +5,7 @@ The lines come from the model of step_model.py. Each trace has a name, which is 
 01 or which lines of the Rust's `analyze` their traces are for. Where the things stand that are easy to get wrong:
 - made seen runs up, under old numbers: 'load: made seen runs up', 'deep: ..'
 - one record for a mark and a later name, equal labels need one record, the order of numbers: 'question 8: ..', 'numbers: ..'
-- unseen records in the chains: 'numbers: keys in any order'
+- unseen records in the chains: 'numbers: keys in any order'; long chains that jump about: 'lookup: ..'
 - hints of both operands as handed in, EQ blocks both: 'hints: ..'; every opcode: 'question 7: every op, ..'
 - LT and GT, the length arm before the general one, range names left alone: 'length arm of ..', 'general arm of ..'
 - the bound by orientation, what else the range rule asks, that it stops the step and marks directly: 'range: ..'
@@ -749,6 +749,44 @@ def numbers():
         t.do(CALLDATALOAD, key + 4).do(BYTE, 0, arg(0, 2)).do(CALLDATALOAD, arg(key, 1, 36))
 
 
+def jumps(t, parent, key):
+    """how many times in a row a walk to a key among a record's children goes to another number than the next one"""
+    at, count, before = t.table[(parent - 1) * WIDTH + 2], 0, 0
+    while at and at != before + 1 and t.table[(at - 1) * WIDTH] < key:
+        before, count = at, count + 1
+        at = t.table[(at - 1) * WIDTH + 3]
+    return count
+
+
+def lookups():
+    """children learnt in no order, so many of them that `paths::near` looks at all records: what a step finds and makes must not tell"""
+    shuffle = random.Random(32)
+    t, keys = Trace('lookup: learnt in no order', 80), [20 * i for i in range(60)]
+    shuffle.shuffle(keys)
+    for key in keys:
+        t.load(key)
+    assert jumps(t, 1, 1180) > 9
+    for key in (0, 1, 19, 20, 21, 590, 600, 1170, 1180, 1181):
+        t.load(key).do(AND, arg(key), 255)
+    # two chains through each other, their records seen, unseen and marked, with a few below their own
+    under = [(1, 40 * i) for i in range(36)] + [(2, 12 * i) for i in range(24)]
+    shuffle.shuffle(under)
+    nodes = [(1, 2000, S)] + [(p, k, (S, {}, {NOT_BOOL: 1}, {**S, NAME: 1008, CONFIDENCE: 6, NOT_BOOL: 1})[i % 4]) for i, (p, k) in enumerate(under)]
+    nodes += [(9, 0, {}), (30, 32, {}), (9, 64, {NOT_BOOL: 1})]
+    used = len(nodes) + 1
+    for free in (0, 1, 2):
+        t = Trace(f'lookup: two chains, {free} free', used + free)
+        for key, parent in ((0, 1), (520, 1), (1399, 1), (1400, 1), (1401, 1), (1999, 1), (2000, 1), (2001, 1), (0, 2), (156, 2), (275, 2), (276, 2),
+                            (277, 2), (TOP, 2), (32, 9), (32, 30)):
+            t.install(nodes).do(CALLDATALOAD, arg(key, parent, 36))
+        assert jumps(t, 1, 2000) > 9 and jumps(t, 2, 276) > 9
+        for a, b in ((arg(1400), arg(276, 2)), (arg(1399), arg(276, 2)), (arg(1400), arg(277, 2)), (arg(1399), arg(277, 2)), (arg(1399), arg(1399)),
+                     (arg(1399), arg(1398))):
+            t.install(nodes).do(ADD, a, b)
+        for key in (1360, 1390):
+            t.install(nodes).do(LT, arg(key), 9, code=guard())
+
+
 # ---- random steps
 
 R = random.Random(20261116)
@@ -836,7 +874,7 @@ def random_traces():
 
 MAKERS = (question_1, question_2, question_3, question_4, question_5, question_6, question_7, question_8, several_questions,
           refused_between, hints, range_rule, decoder_phase, loads, bench, calls, sums, shifts, products, lengths, names, masks, zeros,
-          memory_loads, deep, numbers, random_traces)
+          memory_loads, deep, numbers, lookups, random_traces)
 
 
 # ---- the two files

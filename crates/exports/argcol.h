@@ -5,7 +5,7 @@
  * Numbers. Any number and any length may be handed in: what document 01 does not take is refused by its number, and a refused call leaves the head and the
  * lent slices as they were. What a function returns is that number, 0 for a call that is taken. crates/exports/src/lib.rt has the contracts.
  *
- * Memory, which no contract can ask for: a pointer with a length is to that many numbers, the others are to one. No pointer is NULL, at length 0 neither; each
+ * Memory, which no contract can ask for: a pointer with a length is to that many numbers, word to eight, the others to one. No pointer is NULL, at length 0 neither; each
  * is aligned for its type; what is written overlaps with nothing else that is handed in; and nothing else writes to any of it during the call. The calling thread
  * has stack left: the walks over the facts call themselves once for each level, and the deepest table (16,384 records in one chain) takes between 1.0 and 1.13 MB.
  *
@@ -21,15 +21,13 @@
 extern "C" {
 #endif
 
-/* Widths of document 01: numbers of a record, a stack slot, a memory entry and a step; codes that a closing's types slice has room for at least. */
+/* Widths of document 01: numbers of a record, a word, a stack slot, a memory entry and a step; codes that a closing's types slice has room for at least. */
 #define ARGCOL_RECORD 11
+#define ARGCOL_WORD 8
 #define ARGCOL_SLOT 21
 #define ARGCOL_ENTRY 15
 #define ARGCOL_STEP 59
 #define ARGCOL_TYPES 8192
-
-/* Our own number, none of document 01's: the closing's packed word can't be read. */
-#define ARGCOL_NO_PACKED_WORD 100
 
 /* The kind of a closing's answer. */
 #define ARGCOL_REFUSED 0
@@ -50,14 +48,13 @@ uint32_t argcol_step(uint32_t *used, uint32_t *active, uint32_t *table, size_t t
                      size_t stack_len, uint32_t *memory, size_t memory_len, const uint32_t *numbers, size_t numbers_len);
 
 /*
- * The closing. At flag 0 there is no packed word, and word may be anything; at flag 1 it is the eight numbers of word, highest first. Another flag, or another
- * length at flag 1, is refused by 100 before any question is asked.
- * Returns 0; 1, 2, 3, 9 or 8 for the question that is answered with no; or 100.
+ * The closing. The packed word is the eight numbers at word, highest first; at flag 0 there is none, and they may be anything.
+ * Returns 0, or 1, 2, 3, 9 or 8 for the question that is answered with no.
  * The last four are written by every call: kind is one of the four above; entries, left and length (of the head, in bytes) are 0 unless it is granted. The
  * list's codes then stand at the start of types, and the rest of types is as it was. A closing that is not refused leaves the filled records in table.
  */
 uint32_t argcol_closing(uint32_t *used, uint32_t *active, uint32_t *table, size_t table_len, const uint8_t *code, size_t code_len, uint32_t start,
-                        uint32_t flag, const uint32_t *word, size_t word_len, uint16_t *types, size_t types_len, uint32_t *kind, uint32_t *entries,
+                        uint32_t flag, const uint32_t word[ARGCOL_WORD], uint16_t *types, size_t types_len, uint32_t *kind, uint32_t *entries,
                         uint32_t *left, uint32_t *length);
 
 /*

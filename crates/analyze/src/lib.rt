@@ -1,5 +1,5 @@
 // What a step does, as definitions: specs/ is the Rust's `analyze` over facts, stack and memory, phase by phase and arm by arm. The crates `args`, `naming`,
-// `arms` and `step` have the code.
+// `arms`, `lengths`, `loads` and `step` have the code.
 use labels::Val;
 use word::U256;
 

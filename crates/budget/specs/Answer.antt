@@ -5,7 +5,7 @@ use mathlib.Core.Bool.{Bool, cond, _&&_}
 use mathlib.Core.List.{List}
 use lib.Dec.{leb}
 use lib.ListN.{length}
-use Rattle.limits.specs.Limits.{codesMax}
+use Rattle.limits.specs.Limits.{budgetMax}
 use Rattle.facts.specs.State.{Node, kidsIn}
 use Rattle.list.specs.Seen.{lastKey}
 use Rattle.list.specs.Budget.{spend, fitsBudget}
@@ -16,7 +16,7 @@ use Rattle.budget.specs.declared.Budget.the-variants.{Left, Over}
 
 -- "left is 8,192 less the sum"
 unfoldable pub budgetOf : List Node → Budget
-budgetOf s = cond (fitsBudget s) (Left (codesMax - spend s)) Over
+budgetOf s = cond (fitsBudget s) (Left (budgetMax - spend s)) Over
 
 -- what a sum leaves of a number, over if a fact lies too deep or the sum is larger
 unfoldable pub leaves : Bool → ℕ → ℕ → Budget

@@ -13,7 +13,7 @@ use crate::Below;
 use crate::Budget;
 use crate::Spent;
 use facts::field;
-use limits::CODES_MAX;
+use limits::BUDGET_MAX;
 use limits::DEPTH_MAX;
 use limits::fields::CHILD;
 use limits::fields::KEY;
@@ -109,7 +109,7 @@ pub fn fits_type_budget(table: &[u32], n: u32, used: u32) -> Spent
     ensures { λ s. ⌜ s .budget ≡ budgetOf (nodes (now (table .entry)) used) ⌝ }
     ensures { λ s. ⌜ ((s .budget ≡ Over → ⊥) → s .«last_word» ≡ lastWord (nodes (now (table .entry)) used) 1) ⌝ }
 {
-    let below = left_of_children(table, n, used, 1, 0, CODES_MAX as u32);
+    let below = left_of_children(table, n, used, 1, 0, BUDGET_MAX);
     if below.left == 0 {
         return Spent {
             budget: Budget::Over,

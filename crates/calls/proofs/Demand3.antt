@@ -8,14 +8,13 @@ use native.Mathlib.Omega.{arith}
 use lib.Dec.{eqb, leb}
 use lib.ListN.{length}
 use borrow.Author.Tests.{eqb-true, eqb-false, leb-true, le-leb}
-use Rattle.limits.specs.Limits.{codesMax, wordBytes, recordsMax}
+use Rattle.limits.specs.Limits.{budgetMax, wordBytes, recordsMax}
 use Rattle.types.specs.Tree.{AbiTypes, nil, cons, count, levels, mostLevels}
 use Rattle.facts.specs.Formed.{Formed}
 use Rattle.facts.specs.State.{Node, nodes}
 use Rattle.facts.specs.declared.Records.{Records}
 use Rattle.facts.specs.declared.Records.the-variants.{Count, Unfit}
 use Rattle.facts.specs.Count.{recordCount}
-use Rattle.facts.specs.Fresh.{numberOf as freshNumber}
 use Rattle.facts.proofs.Counts.{count-counted}
 use Rattle.facts.proofs.States.{sound-formed}
 use Rattle.fresh.specs.Call as fresh-call
@@ -56,14 +55,14 @@ judged-so s v F e = go (isEmpty (childrenIn s 1)) refl (fitsBudget s) refl e
   where
     fit-parts : fitsBudget s ≡ true → NoneDeeper s × SumFits s
     fit-parts h =
-        let p = and-eq-true-iff (shallow s) (leb (spend s) codesMax) .0 h in
-        (shallow-deeper s F (p .0), leb-true (spend s) codesMax (p .1))
+        let p = and-eq-true-iff (shallow s) (leb (spend s) budgetMax) .0 h in
+        (shallow-deeper s F (p .0), leb-true (spend s) budgetMax (p .1))
 
     parts-fit : NoneDeeper s × SumFits s → fitsBudget s ≡ true
-    parts-fit p = λ i. deeper-shallow s F (p .0) i && le-leb (spend s) codesMax (p .1) i
+    parts-fit p = λ i. deeper-shallow s F (p .0) i && le-leb (spend s) budgetMax (p .1) i
 
     go : (a : Bool) → isEmpty (childrenIn s 1) ≡ a → (b : Bool) → fitsBudget s ≡ b
-        → v ≡ cond a none (cond b (granted (suc (lastWord s 1)) (codesMax - spend s) (wordBytes * suc (lastWord s 1))) over) → JudgedBy s v
+        → v ≡ cond a none (cond b (granted (suc (lastWord s 1)) (budgetMax - spend s) (wordBytes * suc (lastWord s 1))) over) → JudgedBy s v
     go true ha b hb q =
         let no : SomeArgument s → ⊥ = λ A. true≢false (sym ha ∙ argument-child s F A) in
         record {
@@ -113,14 +112,11 @@ split t (b ∷ before) c behind t′ R =
     record { handed = S .handed; ran = (R .0, R .1, S .ran); left = S .left; does = S .does; rest = S .rest }
 
 -- document 01: "A taken fresh call comes first and fixes the record count.": it leaves the head and the table from which the lists of calls start
-pub fresh-first : (l l′ : fresh-call.Lent) → fresh-call.Outcome l 0 l′ → FirstOf l′
-fresh-first l l′ O = go (recordCount (length (l .table))) refl (O .answers) (O .leaves)
-  where
-    go : (r : Records) → recordCount (length (l .table)) ≡ r → 0 ≡ freshNumber r → l′ ≡ fresh-call.freshened r l → FirstOf l′
-    go (Count N) e z q =
-        let C = count-counted (length (l .table)) N e in
-        record { count = N; some = C .some; most = C .most; leaves = ap (λ (m : fresh-call.Lent). held (m .used) (m .active) (m .table)) q }
-    go Unfit e z q = absurd (differ 0 1 refl z)
+pub fresh-first : (N : ℕ) (l l′ : fresh-call.Lent) → fresh-call.Outcome l (Count N) l′ → FirstOf N l′
+fresh-first N l l′ O =
+    let C = count-counted (length (l .table)) N (sym (O .answers)) in
+    let q = O .leaves ∙ ap (λ (r : Records). fresh-call.freshened r l) (sym (O .answers)) in
+    record { some = C .some; most = C .most; leaves = ap (λ (m : fresh-call.Lent). held (m .used) (m .active) (m .table)) q }
 
 module _ (N : ℕ) (N1 : 1 ≤ N) (NM : N ≤ recordsMax) where
   -- "For every list of steps and closings, refused ones included, from a fresh table, each handed the table and the head beside it as the one before left them, and
@@ -168,7 +164,7 @@ record Grants (s : List Node) (entries left head : ℕ) : Type 0 where
   is : answerOf s ≡ granted entries left head
   fits : fitsBudget s ≡ true
   entries-are : entries ≡ suc (lastWord s 1)
-  left-is : left ≡ codesMax - spend s
+  left-is : left ≡ budgetMax - spend s
   head-is : head ≡ wordBytes * suc (lastWord s 1)
 
 abbrev valuesOf : Verdict → ℕ × ℕ × ℕ
@@ -182,7 +178,7 @@ unfolding answerOf
 grants-are s e l h q = go (isEmpty (childrenIn s 1)) (fitsBudget s) refl q
   where
     go : (a b : Bool) → fitsBudget s ≡ b
-        → granted e l h ≡ cond a none (cond b (granted (suc (lastWord s 1)) (codesMax - spend s) (wordBytes * suc (lastWord s 1))) over) → Grants s e l h
+        → granted e l h ≡ cond a none (cond b (granted (suc (lastWord s 1)) (budgetMax - spend s) (wordBytes * suc (lastWord s 1))) over) → Grants s e l h
     go true b k p = absurd (differ 3 1 refl (ap kindOf p))
     go false false k p = absurd (differ 3 2 refl (ap kindOf p))
     go false true k p = record {
@@ -199,7 +195,7 @@ well-listed s F h = record {
   types = list-formed s F;
   parts = list-codes s F;
   levels = λ k below.
-      let a = list-levels s F (and-eq-true-iff (shallow s) (leb (spend s) codesMax) .0 h .0) in
+      let a = list-levels s F (and-eq-true-iff (shallow s) (leb (spend s) budgetMax) .0 h .0) in
       let b = entry-most (listOf s) k below in
       omega arith;
 }
@@ -228,11 +224,11 @@ module _ (l : closing-call.Lent) (h : Handed) (e left head : ℕ) (l′ : closin
   granted-list v O z =
       let C = came v O z in
       let G = C .grants in
-      let p = and-eq-true-iff (shallow (factsOf l h)) (leb (spend (factsOf l h)) codesMax) .0 (G .fits) in
+      let p = and-eq-true-iff (shallow (factsOf l h)) (leb (spend (factsOf l h)) budgetMax) .0 (G .fits) in
       record {
         list = C .types ∙ ap (λ (w : Verdict). cond (isGranted w) (withList (factsOf l h) (l .types)) (l .types)) (G .is);
         counted = G .entries-are ∙ sym (list-count (factsOf l h));
-        sum-fits = leb-true (spend (factsOf l h)) codesMax (p .1);
+        sum-fits = leb-true (spend (factsOf l h)) budgetMax (p .1);
         budget-left = G .left-is;
         head-is = G .head-is ∙ ap (λ (n : ℕ). wordBytes * n) (sym (G .entries-are));
         listed = well-listed (factsOf l h) (C .formed) (G .fits);

@@ -5,7 +5,7 @@ use mathlib.Core.Bool.{true}
 use mathlib.Core.Logic.{_↔_}
 use mathlib.Core.List.{List, _++_}
 use lib.ListN.{length, drop}
-use Rattle.limits.specs.Limits.{codesMax, wordBytes, recordsMax}
+use Rattle.limits.specs.Limits.{budgetMax, wordBytes, recordsMax}
 use Rattle.types.specs.Tree.{count}
 use Rattle.types.specs.Codes.{allCodes}
 use Rattle.facts.specs.State.{Node, nodes}
@@ -19,12 +19,11 @@ use Rattle.calls.specs.Facts.{Call, known}
 use Rattle.calls.specs.Run.{Held, held, fresh, Run}
 use Rattle.calls.specs.Terms.{SomeArgument, NoneDeeper, SumFits, WellListed}
 
--- what a taken fresh call has left: a record count of 1 to 16,384, and the head and the table from which a list of calls starts, "from a fresh table"
-pub record FirstOf (l : fresh-call.Lent) : Type 0 where
-  pub count : ℕ
-  pub some : 1 ≤ count
-  pub most : count ≤ recordsMax
-  pub leaves : held (l .used) (l .active) (l .table) ≡ fresh count
+-- what a fresh call that is taken with N records has left: N is 1 to 16,384, and these are the head and the table from which a list of calls starts, "from a fresh table"
+pub record FirstOf (N : ℕ) (l : fresh-call.Lent) : Type 0 where
+  pub some : 1 ≤ N
+  pub most : N ≤ recordsMax
+  pub leaves : held (l .used) (l .active) (l .table) ≡ fresh N
 
 -- an answer judged by the facts s: it "grants a list exactly when some argument is known, no fact lies deeper than 64, and the sum over all facts of last word plus one
 -- is at most 8,192. Otherwise it answers none if no argument is known, and over if one is."
@@ -53,6 +52,6 @@ pub record GrantedList (l : closing-call.Lent) (h : Handed) (entries left head :
   pub list : l′ .types ≡ allCodes (listOf (factsOf l h)) ++ drop (length (allCodes (listOf (factsOf l h)))) (l .types)
   pub counted : entries ≡ count (listOf (factsOf l h))
   pub sum-fits : SumFits (factsOf l h)
-  pub budget-left : left ≡ codesMax - spend (factsOf l h)
+  pub budget-left : left ≡ budgetMax - spend (factsOf l h)
   pub head-is : head ≡ wordBytes * entries
   pub listed : WellListed (factsOf l h) (listOf (factsOf l h))

@@ -4,7 +4,7 @@ use mathlib.Core.Path.{_≡_}
 use mathlib.Core.Bool.{true}
 use mathlib.Core.List.{List}
 use lib.ListN.{length}
-use Rattle.limits.specs.Limits.{codesMax, depthMax}
+use Rattle.limits.specs.Limits.{budgetMax, depthMax}
 use Rattle.types.specs.Tree.{AbiTypes, count, allWellFormed, levels}
 use Rattle.types.specs.Codes.{allCodes}
 use Rattle.facts.specs.State.{Node, nodeOf}
@@ -30,7 +30,7 @@ NoneDeeper s = (r : ℕ) → Fact s r → length (pathOf s r) ≤ depthMax
 
 -- demand 3: "the sum over all facts of last word plus one is at most 8,192"
 abbrev pub SumFits : List Node → Type 0
-SumFits s = spend s ≤ codesMax
+SumFits s = spend s ≤ budgetMax
 
 -- demand 3: "nests at most 129 levels"
 abbrev pub levelsMax : ℕ

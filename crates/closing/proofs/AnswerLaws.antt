@@ -10,7 +10,7 @@ use lib.Dec.{leb}
 use lib.ListN.{length, drop}
 use lib.Seq.{sets, sets-eq}
 use borrow.Author.Tests.{leb-true}
-use Rattle.limits.specs.Limits.{codesMax, wordBytes}
+use Rattle.limits.specs.Limits.{typesRoom, budgetMax, wordBytes}
 use Rattle.types.specs.Codes.{allCodes}
 use Rattle.types.proofs.Sizes.{count-codes}
 use Rattle.facts.specs.Formed.{Formed}
@@ -47,7 +47,7 @@ module _ (s : List Node) (bare : Bool) (types : List ℕ) (L : bare ≡ isEmpty 
     unfolding budgetOf
     fits-is = ap isLeft e ∙ go (fitsBudget s)
       where
-        go : (f : Bool) → isLeft (cond f (Left (codesMax - spend s)) Over) ≡ f
+        go : (f : Bool) → isLeft (cond f (Left (budgetMax - spend s)) Over) ≡ f
         go true = refl
         go false = refl
 
@@ -65,15 +65,15 @@ module _ (s : List Node) (bare : Bool) (types : List ℕ) (L : bare ≡ isEmpty 
       fits : fitsBudget s ≡ true
       fits = sym fits-is ∙ ap isLeft z
 
-      left-is : left ≡ codesMax - spend s
+      left-is : left ≡ budgetMax - spend s
       unfolding budgetOf
-      left-is = ap leftIn (sym z ∙ e) ∙ ap (λ (f : Bool). leftIn (cond f (Left (codesMax - spend s)) Over)) fits
+      left-is = ap leftIn (sym z ∙ e) ∙ ap (λ (f : Bool). leftIn (cond f (Left (budgetMax - spend s)) Over)) fits
 
-      pub spend-most : spend s ≤ codesMax
-      spend-most = leb-true (spend s) codesMax (and-eq-true-iff (shallow s) (leb (spend s) codesMax) .0 fits .1)
+      pub spend-most : spend s ≤ budgetMax
+      spend-most = leb-true (spend s) budgetMax (and-eq-true-iff (shallow s) (leb (spend s) budgetMax) .0 fits .1)
 
       pub answer-granted : (w : ℕ) (types′ : List ℕ) → w ≡ lastWord s 1 → types′ ≡ sets types 0 (allCodes (wordTypes s 1 0 (w + 1)))
-          → codesMax ≤ length types → Formed s
+          → typesRoom ≤ length types → Formed s
           → (granted (w + 1) left (wordBytes * (w + 1)) ≡ answerOf s) × (types′ ≡ typesAfter s types)
       unfolding answerOf typesAfter listOf
       answer-granted w types′ q t h F =
@@ -88,13 +88,13 @@ module _ (s : List Node) (bare : Bool) (types : List ℕ) (L : bare ≡ isEmpty 
           )
 
       -- the codes fit, and the entries are few
-      pub list-fits : Formed s → length (allCodes (listOf s)) ≤ codesMax
+      pub list-fits : Formed s → length (allCodes (listOf s)) ≤ typesRoom
       list-fits F = let a = list-codes s F in let m = spend-most in omega arith
 
-      pub entries-most : Formed s → suc (lastWord s 1) ≤ codesMax
+      pub entries-most : Formed s → suc (lastWord s 1) ≤ typesRoom
       entries-most F = let a = list-fits F in let c = count-codes (listOf s) in let k = list-count s in omega arith
 
-      pub words-fit : (w : ℕ) → w ≡ lastWord s 1 → Formed s → 0 + length (allCodes (wordTypes s 1 0 (w + 1))) ≤ codesMax
+      pub words-fit : (w : ℕ) → w ≡ lastWord s 1 → Formed s → 0 + length (allCodes (wordTypes s 1 0 (w + 1))) ≤ typesRoom
       unfolding listOf
       words-fit w q F =
           let e : length (allCodes (wordTypes s 1 0 (w + 1))) ≡ length (allCodes (listOf s)) = ap (λ (k : ℕ). length (allCodes (wordTypes s 1 0 k))) (add-one w ∙ ap suc q) in

@@ -7,7 +7,7 @@ use native.Mathlib.Omega.{arith}
 use lib.Dec.{eqb}
 use lib.ListN.{length}
 use borrow.Author.Tests.{le-leb, lt-leb}
-use Rattle.limits.specs.Limits.{codesMax, codeMax}
+use Rattle.limits.specs.Limits.{typesRoom, codeMax}
 use Rattle.facts.specs.Sound.{Sound}
 use Rattle.facts.specs.State.{Node, nodes, encode}
 use Rattle.facts.proofs.Encode.{length-nodes}
@@ -38,11 +38,11 @@ module _ (N used active : ℕ) (table types : List ℕ) (h : Handed) where
   long-code g = refused-by 3 (rw (lt-leb (length (h .code)) codeMax g) refl) (λ z. omega arith) refl
 
   module _ (c : length (h .code) ≤ codeMax) where
-    pub short-types : length types < codesMax → Judged N l h (refused 9) l
+    pub short-types : length types < typesRoom → Judged N l h (refused 9) l
     unfolding refusal
-    short-types g = refused-by 9 (rw (le-leb (length (h .code)) codeMax c, lt-leb codesMax (length types) g) refl) (λ z. omega arith) refl
+    short-types g = refused-by 9 (rw (le-leb (length (h .code)) codeMax c, lt-leb typesRoom (length types) g) refl) (λ z. omega arith) refl
 
-    module _ (t : codesMax ≤ length types) (S : Sound table used N) (w m : ℕ) (e : w ≡ fillWords s h) (q : m ≡ fillMissing s w) where
+    module _ (t : typesRoom ≤ length types) (S : Sound table used N) (w m : ℕ) (e : w ≡ fillWords s h) (q : m ≡ fillMissing s w) where
       filled-is : fill s w ≡ filled s h
       unfolding filled
       filled-is = ap (fill s) e
@@ -55,7 +55,7 @@ module _ (N used active : ℕ) (table types : List ℕ) (h : Handed) where
       no-room g =
           let f = length-filled in
           let u = S .most in
-          refused-by 8 (rw (le-leb (length (h .code)) codeMax c, le-leb codesMax (length types) t, lt-leb (length (filled s h)) N (omega arith)) refl) (λ z. omega arith) refl
+          refused-by 8 (rw (le-leb (length (h .code)) codeMax c, le-leb typesRoom (length types) t, lt-leb (length (filled s h)) N (omega arith)) refl) (λ z. omega arith) refl
 
       pub room-left : m ≤ N - used → used + fillMissing s w ≤ N
       room-left g = let u = S .most in omega arith
@@ -80,7 +80,7 @@ module _ (N used active : ℕ) (table types : List ℕ) (h : Handed) where
         answered v types′ a b =
             let f = length-filled in
             let u = S .most in
-            let z : refusal N s h types ≡ 0 = rw (le-leb (length (h .code)) codeMax c, le-leb codesMax (length types) t, le-leb (length (filled s h)) N (omega arith)) refl in
+            let z : refusal N s h types ≡ 0 = rw (le-leb (length (h .code)) codeMax c, le-leb typesRoom (length types) t, le-leb (length (filled s h)) N (omega arith)) refl in
             record {
               answers = a ∙ ap answerOf (H .state ∙ filled-is) ∙ sym (rw z refl);
               leaves = left-is types′ b ∙ sym (rw z refl);

@@ -4,7 +4,8 @@ use Prim.Native.Nat.{ℕ, suc, _-_, _*_}
 use mathlib.Core.Bool.{Bool, true, false, cond}
 use mathlib.Core.List.{List, _++_}
 use lib.ListN.{length, drop}
-use Rattle.limits.specs.Limits.{codesMax, wordBytes}
+use Rattle.limits.specs.Limits.{budgetMax, wordBytes}
+use Rattle.limits.specs.Questions.{taken, countQuestion, soundQuestion, codeQuestion, roomQuestion, sliceQuestion}
 use Rattle.types.specs.Codes.{allCodes}
 use Rattle.facts.specs.State.{Node}
 use Rattle.list.specs.Seen.{childrenIn, isEmpty, lastWord}
@@ -21,11 +22,11 @@ pub data Verdict : Type 0 where
 
 -- the number and the values of each answer of the call
 abbrev pub verdictOf : Closing → Verdict
-verdictOf NoRecords = refused 1
-verdictOf Unsound = refused 2
-verdictOf LongCode = refused 3
-verdictOf NoRoom = refused 8
-verdictOf ShortTypes = refused 9
+verdictOf NoRecords = refused countQuestion
+verdictOf Unsound = refused soundQuestion
+verdictOf LongCode = refused codeQuestion
+verdictOf NoRoom = refused roomQuestion
+verdictOf ShortTypes = refused sliceQuestion
 verdictOf Nothing = none
 verdictOf Over = over
 verdictOf (Granted g) = granted (g .entries) (g .left) (g .length)
@@ -33,9 +34,9 @@ verdictOf (Granted g) = granted (g .entries) (g .left) (g .length)
 -- the refusal's number, 0 for none (that 0 is ours)
 abbrev pub numberOf : Verdict → ℕ
 numberOf (refused n) = n
-numberOf none = 0
-numberOf over = 0
-numberOf (granted e l h) = 0
+numberOf none = taken
+numberOf over = taken
+numberOf (granted e l h) = taken
 
 -- entries: "from word 0 to the root's last word"
 abbrev pub entries : List Node → ℕ
@@ -45,7 +46,7 @@ entries s = suc (lastWord s 1)
 unfoldable pub answerOf : List Node → Verdict
 answerOf s =
     cond (isEmpty (childrenIn s 1)) none
-    (cond (fitsBudget s) (granted (entries s) (codesMax - spend s) (wordBytes * entries s)) over)
+    (cond (fitsBudget s) (granted (entries s) (budgetMax - spend s) (wordBytes * entries s)) over)
 
 -- is it granted?
 abbrev pub isGranted : Verdict → Bool

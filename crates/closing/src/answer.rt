@@ -2,7 +2,7 @@
 ghost use mathlib.Core.Path.{_≡_};
 ghost use Prim.Native.Nat.{_≤_};
 ghost use lib.ListN.{length};
-ghost use Rattle.limits.specs.Limits.{codesMax};
+ghost use Rattle.limits.specs.Limits.{typesRoom};
 ghost use Rattle.facts.specs.Sound.{Sound};
 ghost use Rattle.facts.specs.State.{nodes};
 ghost use Rattle.closing.specs.Answer.{verdictOf, answerOf, typesAfter};
@@ -17,7 +17,7 @@ use type_walk::write_words;
 // The answer for the facts of a sound table; the list's codes are written where it is granted.
 pub fn answer(table: &[u32], n: u32, used: u32, types: &mut [u16]) -> Closing
     requires { ⌜ Sound (now table) used n ⌝ }
-    requires { ⌜ codesMax ≤ length (now types) ⌝ }
+    requires { ⌜ typesRoom ≤ length (now types) ⌝ }
     ensures { λ a. ⌜ verdictOf a ≡ answerOf (nodes (now (table .entry)) used) ⌝ }
     ensures { λ _. ⌜ now (types .exit) ≡ typesAfter (nodes (now (table .entry)) used) (now (types .entry)) ⌝ }
 {

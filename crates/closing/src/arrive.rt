@@ -18,21 +18,27 @@ use head::Head;
 use kinds::fill;
 use kinds::fill_missing;
 use limits::CODE_MAX;
-use limits::CODES_MAX;
+use limits::TYPES_ROOM;
+use limits::questions::CODE_QUESTION;
+use limits::questions::COUNT_QUESTION;
+use limits::questions::ROOM_QUESTION;
+use limits::questions::SLICE_QUESTION;
+use limits::questions::SOUND_QUESTION;
+use limits::questions::TAKEN;
 
 // Document 01's number for an answer, 0 for one that is no refusal.
 pub fn number_of(answer: Closing) -> u32
     ensures { λ r. ⌜ r ≡ numberOf (verdictOf answer) ⌝ }
 {
     match answer {
-        Closing::NoRecords => 1,
-        Closing::Unsound => 2,
-        Closing::LongCode => 3,
-        Closing::NoRoom => 8,
-        Closing::ShortTypes => 9,
-        Closing::Nothing => 0,
-        Closing::Over => 0,
-        Closing::Granted(granted) => 0,
+        Closing::NoRecords => COUNT_QUESTION,
+        Closing::Unsound => SOUND_QUESTION,
+        Closing::LongCode => CODE_QUESTION,
+        Closing::NoRoom => ROOM_QUESTION,
+        Closing::ShortTypes => SLICE_QUESTION,
+        Closing::Nothing => TAKEN,
+        Closing::Over => TAKEN,
+        Closing::Granted(granted) => TAKEN,
     }
 }
 
@@ -55,7 +61,7 @@ fn judge(
             answer: Closing::LongCode,
         };
     }
-    if types.len() < CODES_MAX {
+    if types.len() < TYPES_ROOM {
         return Closed {
             head,
             answer: Closing::ShortTypes,

@@ -1,19 +1,22 @@
--- `one-outcome`: the closing in numbers has one outcome for one input: its five numbers, its head and the lent slices. Assumes nothing.
+-- The calls in numbers have one outcome for one input: their numbers, the head and the lent slices. Assumes nothing.
 use Prim.Native.Nat.{ℕ}
 use mathlib.Core.Path.{_≡_, sym, ap, _∙_}
-use mathlib.Core.Bool.{true≢false}
 use mathlib.Core.List.{List}
+use Rattle.facts.specs.Fresh.{numberOf}
+use Rattle.fresh.specs.Call as fresh-call
+use Rattle.fresh.proofs.Outcomes as fresh-outcomes
 use Rattle.closing.specs.Call.{Lent}
-use Rattle.closing.proofs.Outcomes.{one-outcome as one-closing}
+use Rattle.closing.proofs.Outcomes as closing-outcomes
 use Rattle.exports.specs.declared.Answered.{Answered}
-use Rattle.exports.specs.Numbers.{answered, packedOf, ClosingOutcome, unread, called}
+use Rattle.exports.specs.Numbers.{answered, packedOf, FreshOutcome, ClosingOutcome}
 
-module _ (l : Lent) (code : List ℕ) (start flag : ℕ) (word : List ℕ) where
-  pub one-outcome : (a b : Answered) (l₁ l₂ : Lent) → ClosingOutcome l code start flag word a l₁ → ClosingOutcome l code start flag word b l₂
-      → (a ≡ b) × (l₁ ≡ l₂)
-  one-outcome a b l₁ l₂ (unread f e q) (unread g d p) = (e ∙ sym d, q ∙ sym p)
-  one-outcome a b l₁ l₂ (unread f e q) (called w g P d) = absurd (true≢false (sym g ∙ f))
-  one-outcome a b l₁ l₂ (called v f O e) (unread g d p) = absurd (true≢false (sym f ∙ g))
-  one-outcome a b l₁ l₂ (called v f O e) (called w g P d) =
-      let same = one-closing l (record { code = code; start = start; packed = packedOf flag word }) v w l₁ l₂ O P in
-      (e ∙ ap answered (same .0) ∙ sym d, same .1)
+pub one-fresh : (l : fresh-call.Lent) (n m : ℕ) (l₁ l₂ : fresh-call.Lent) → FreshOutcome l n l₁ → FreshOutcome l m l₂ → (n ≡ m) × (l₁ ≡ l₂)
+one-fresh l n m l₁ l₂ O P =
+    let same = fresh-outcomes.one-outcome l (O .answer) (P .answer) l₁ l₂ (O .outcome) (P .outcome) in
+    (O .says ∙ ap numberOf (same .0) ∙ sym (P .says), same .1)
+
+pub one-closing : (l : Lent) (code : List ℕ) (start flag : ℕ) (word : List ℕ) (a b : Answered) (l₁ l₂ : Lent) → ClosingOutcome l code start flag word a l₁
+    → ClosingOutcome l code start flag word b l₂ → (a ≡ b) × (l₁ ≡ l₂)
+one-closing l code start flag word a b l₁ l₂ O P =
+    let same = closing-outcomes.one-outcome l (record { code = code; start = start; packed = packedOf flag word }) (O .verdict) (P .verdict) l₁ l₂ (O .outcome) (P .outcome) in
+    (O .says ∙ ap answered (same .0) ∙ sym (P .says), same .1)

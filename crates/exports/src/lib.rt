@@ -3,11 +3,11 @@
 // the head and the lent slices unchanged. `argcol.h` beside src/ declares them for C: a slice is a pointer and a length there.
 mod convert;
 
-ghost use Rattle.fresh.specs.Call.{Outcome as FreshOutcome, lend as lendFresh};
+ghost use Rattle.fresh.specs.Call.{lend as lendFresh};
 ghost use Rattle.step.specs.Call.{Outcome as StepOutcome, lend as lendStep};
 ghost use Rattle.closing.specs.Call.{lend as lendTypes};
 ghost use Rattle.text.specs.Call.{Outcome as TextOutcome};
-ghost use Rattle.exports.specs.Numbers.{ClosingOutcome, saying};
+ghost use Rattle.exports.specs.Numbers.{FreshOutcome, ClosingOutcome, saying};
 use convert::close;
 use convert::text_length;
 use convert::text_number;
@@ -72,7 +72,7 @@ pub extern "C" fn argcol_step(
     number_of(answer)
 }
 
-// The closing. 100 is our own number: the packed word can't be read. The last four are always written.
+// The closing. The packed word is there unless flag is 0. The last four are the answer's values, which every call writes.
 #[no_mangle]
 pub extern "C" fn argcol_closing(
     used: &mut u32,
@@ -81,7 +81,7 @@ pub extern "C" fn argcol_closing(
     code: &[u8],
     start: u32,
     flag: u32,
-    word: &[u32],
+    word: &[u32; 8],
     types: &mut [u16],
     kind: &mut u32,
     entries: &mut u32,
@@ -104,7 +104,7 @@ pub extern "C" fn argcol_closing(
     ended.said.number
 }
 
-// The text call. The length is always written, 0 for a refusal.
+// The text call. The length is the answer's value, which every call writes, 0 for a refusal.
 #[no_mangle]
 pub extern "C" fn argcol_text(codes: &[u16], out: &mut [u8], length: &mut usize) -> u32
     ensures { λ r. ⌜ TextOutcome (now (codes .entry)) (now (out .entry)) r (now (length .exit)) (now (out .exit)) ⌝ }

@@ -1,6 +1,7 @@
 -- "A fresh call takes question 1 and leaves a lone root, the other records zero, active." Assumes nothing: these are definitions.
 use Prim.Native.Nat.{ℕ}
 use mathlib.Core.List.{List, [], _∷_}
+use Rattle.limits.specs.Questions.{taken, countQuestion}
 use Rattle.facts.specs.State.{root, encode}
 use Rattle.facts.specs.declared.Records.{Records}
 use Rattle.facts.specs.declared.Records.the-variants.{Count, Unfit}
@@ -12,5 +13,5 @@ freshTable Unfit t = t
 
 -- document 01's number for each answer of a fresh call; the 0 of one that is taken is ours
 abbrev pub numberOf : Records → ℕ
-numberOf (Count N) = 0
-numberOf Unfit = 1
+numberOf (Count N) = taken
+numberOf Unfit = countQuestion

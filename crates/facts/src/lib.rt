@@ -1,4 +1,4 @@
-// The fact table: its records, questions 1 and 2, and the fresh call. specs/ has the state that a table stands for.
+// The fact table: its records, questions 1 and 2, and a fresh table. specs/ has the state that a table stands for.
 mod count;
 mod fact;
 mod links;

@@ -7,6 +7,8 @@ use crate::Records;
 use crate::count::record_count;
 use crate::table::set_field;
 use limits::fields::SEEN;
+use limits::questions::COUNT_QUESTION;
+use limits::questions::TAKEN;
 
 // Stores zero everywhere.
 fn clear(table: &mut [u32])
@@ -38,7 +40,7 @@ pub fn number_of(records: Records) -> u32
     ensures { λ r. ⌜ r ≡ numberOf records ⌝ }
 {
     match records {
-        Records::Count(n) => 0,
-        Records::Unfit => 1,
+        Records::Count(n) => TAKEN,
+        Records::Unfit => COUNT_QUESTION,
     }
 }

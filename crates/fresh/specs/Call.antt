@@ -7,7 +7,7 @@ use lib.ListN.{length}
 use Rattle.facts.specs.declared.Records.{Records}
 use Rattle.facts.specs.declared.Records.the-variants.{Count, Unfit}
 use Rattle.facts.specs.Count.{recordCount}
-use Rattle.facts.specs.Fresh.{freshTable, numberOf}
+use Rattle.facts.specs.Fresh.{freshTable}
 
 -- what goes along with the call: the head's two numbers and the table
 pub record Lent : Type 0 where
@@ -23,7 +23,7 @@ abbrev pub freshened : Records → Lent → Lent
 freshened (Count N) l = lend 1 1 (freshTable (Count N) (l .table))
 freshened Unfit l = l
 
--- the number of the answer, and what is left
-pub record Outcome (l : Lent) (number : ℕ) (l′ : Lent) : Type 0 where
-  pub answers : number ≡ numberOf (recordCount (length (l .table)))
+-- the answer, question 1's with the record count of a table that it takes (facts/specs/Fresh has its number), and what is left
+pub record Outcome (l : Lent) (answer : Records) (l′ : Lent) : Type 0 where
+  pub answers : answer ≡ recordCount (length (l .table))
   pub leaves : l′ ≡ freshened (recordCount (length (l .table))) l

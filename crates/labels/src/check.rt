@@ -12,10 +12,15 @@ use limits::layout::LABEL_MASK;
 use limits::layout::LABEL_MASKED;
 use limits::layout::LABEL_OFFSET;
 use limits::layout::LABEL_PATH;
+use limits::layout::LABEL_WIDTH;
 use limits::layout::LABEL_ZERO_TEST;
 use limits::layout::SLOT_LABEL;
 use limits::layout::SLOT_WIDTH;
+use limits::layout::WORD_WIDTH;
 use zeros::are_zero;
+
+// Numbers of a label behind its kind.
+const BEHIND_KIND: usize = LABEL_WIDTH - LABEL_OFFSET;
 
 fn is_mask(s: &[u32], at: usize) -> bool
     requires { ⌜ at + labelWidth ≤ length (now s) ⌝ }
@@ -23,7 +28,7 @@ fn is_mask(s: &[u32], at: usize) -> bool
 {
     let masked = s[at + LABEL_MASKED];
     if masked == 0 {
-        return are_zero(s, at + LABEL_MASK, 8);
+        return are_zero(s, at + LABEL_MASK, WORD_WIDTH);
     }
     masked == 1
 }
@@ -35,7 +40,7 @@ pub fn is_label(s: &[u32], at: usize, used: u32) -> bool
 {
     let kind = s[at];
     if kind <= LABEL_CALL_DATA {
-        return are_zero(s, at + LABEL_OFFSET, 12);
+        return are_zero(s, at + LABEL_OFFSET, BEHIND_KIND);
     }
     let path = s[at + LABEL_PATH];
     (kind <= LABEL_ZERO_TEST) & ((1 <= path) & (path <= used)) & is_mask(s, at)

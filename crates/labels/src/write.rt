@@ -4,7 +4,7 @@ ghost use Prim.Native.Nat.{_+_, _≤_};
 ghost use mathlib.Core.List.{[], _∷_};
 ghost use lib.ListN.{length};
 ghost use lib.Seq.{sets};
-ghost use Rattle.limits.specs.Layout.{labelWidth};
+ghost use Rattle.limits.specs.Layout.{wordWidth, labelWidth};
 ghost use Rattle.labels.specs.Label.{maskNumbers, valNumbers, labelNumbers};
 ghost use Rattle.labels.specs.Step.{smallWord};
 use crate::Label;
@@ -21,7 +21,7 @@ use word::numbers::put_numbers;
 
 // Stores a word below 2^32 at an index of s.
 pub fn put_small(s: &mut [u32], at: usize, n: u32)
-    requires { ⌜ at + 8 ≤ length (now s) ⌝ }
+    requires { ⌜ at + wordWidth ≤ length (now s) ⌝ }
     ensures { λ _. ⌜ now (s .exit) ≡ sets (now (s .entry)) at (smallWord n) ⌝ }
 {
     let x = U256 {

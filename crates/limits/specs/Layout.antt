@@ -1,6 +1,10 @@
 -- The places of the numbers of a label, a slot, an entry and a step, from 0. Assumes nothing.
 use Prim.Native.Nat.{ℕ}
 
+-- "256-bit words as eight of them"
+abbrev pub wordWidth : ℕ
+wordWidth = 8
+
 -- "13 numbers: kind 0 to 3 in that order, offset, path (a record number), added value, masked (0 or 1), mask"
 abbrev pub labelWidth : ℕ
 labelWidth = 13

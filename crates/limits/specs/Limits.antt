@@ -25,6 +25,14 @@ rangeBoundMax = 255
 abbrev pub codesMax : ℕ
 codesMax = 8192
 
+-- "has the type slice 8,192 u16 numbers or more?"
+abbrev pub typesRoom : ℕ
+typesRoom = 8192
+
+-- "`fits_type_budget` starts at depth 0 with 8,192."
+abbrev pub budgetMax : ℕ
+budgetMax = 8192
+
 -- "records of 11"
 abbrev pub recordWidth : ℕ
 recordWidth = 11

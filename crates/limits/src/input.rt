@@ -1,4 +1,5 @@
 // "Lines of the trace printer": the sizes of its input, and the places of its numbers.
+use crate::RECORD_WIDTH;
 
 // "Here code is at most 24,576 bytes, slots and entries 256 each; the table has 1,480 records."
 pub const TRACE_CODE_MAX: usize = 24576;
@@ -8,6 +9,9 @@ pub const TRACE_SLOTS_MAX: usize = 256;
 pub const TRACE_ENTRIES_MAX: usize = 256;
 
 pub const TRACE_RECORDS: usize = 1480;
+
+// Numbers of that table.
+pub const TRACE_NUMBERS: usize = TRACE_RECORDS * RECORD_WIDTH;
 
 // "u32 little-endian": bytes of a number.
 pub const NUMBER_BYTES: usize = 4;

@@ -1,5 +1,8 @@
 // The places of the numbers of a label, a slot, an entry and a step.
 
+// "256-bit words as eight of them": numbers of a word.
+pub const WORD_WIDTH: usize = 8;
+
 // "13 numbers: kind 0 to 3 in that order, offset, path (a record number), added value, masked (0 or 1), mask".
 pub const LABEL_WIDTH: usize = 13;
 

@@ -5,6 +5,7 @@ pub mod confidences;
 pub mod fields;
 pub mod input;
 pub mod layout;
+pub mod questions;
 
 // Bytes of an EVM word. Keys, offsets and multipliers count in bytes, arguments and counts in words.
 pub const WORD_BYTES: u32 = 32;
@@ -21,8 +22,14 @@ pub const ARRAY_COUNT_MAX: u32 = 99;
 // "a bound of 1 to 255 inclusive": the largest bound of the range rule.
 pub const RANGE_BOUND_MAX: u32 = 255;
 
-// "at most 8,192 codes": the longest list.
+// "at most 8,192 codes": the longest list that has a text.
 pub const CODES_MAX: usize = 8192;
+
+// "has the type slice 8,192 u16 numbers or more?"
+pub const TYPES_ROOM: usize = 8192;
+
+// "`fits_type_budget` starts at depth 0 with 8,192."
+pub const BUDGET_MAX: u32 = 8192;
 
 // "records of 11": numbers of a record.
 pub const RECORD_WIDTH: usize = 11;

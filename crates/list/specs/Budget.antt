@@ -5,7 +5,7 @@ use mathlib.Core.Bool.{Bool, true, cond, not, _&&_, _||_}
 use mathlib.Core.List.{List}
 use lib.Dec.{eqb, leb}
 use lib.ListN.{length}
-use Rattle.limits.specs.Limits.{codesMax, depthMax}
+use Rattle.limits.specs.Limits.{budgetMax, depthMax}
 use Rattle.facts.specs.State.{Node, nodeOf}
 use Rattle.paths.specs.Depth.{depthOf}
 use Rattle.list.specs.Seen.{lastWord}
@@ -29,4 +29,4 @@ shallow s = shallowTo s (length s)
 
 -- `fits_type_budget`
 abbrev pub fitsBudget : List Node → Bool
-fitsBudget s = shallow s && leb (spend s) codesMax
+fitsBudget s = shallow s && leb (spend s) budgetMax

@@ -12,6 +12,7 @@ mod report;
 
 use entry::argument;
 use libc::STDIN_FILENO;
+use limits::input::TRACE_NUMBERS;
 use list::run_part;
 
 // One list; false at the end of the input.
@@ -21,7 +22,7 @@ fn run_one() -> bool {
     if got < 24 {
         return false;
     }
-    let mut table = [0u32; 16280];
+    let mut table = [0u32; TRACE_NUMBERS];
     run_part(&mut table, argument(&e, 1), argument(&e, 2));
     true
 }

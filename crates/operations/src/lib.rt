@@ -1,1 +1,1 @@
-// The operations on the facts, together: proofs/ has one theorem for each, that it keeps a sound table sound. There is no code here.
+// The operations on the facts, together: proofs/ has two theorems for each: that it keeps a sound table sound, and how many records it adds. There is no code here.

@@ -77,14 +77,6 @@ module _ (t : List ℕ) (u p k prev c : ℕ) (Q : Place t u p k prev c) where
 pub before-some : (t : List ℕ) (u p k r : ℕ) → Linked t u → 1 < r → r ≤ u → parentOf t r ≡ p → keyOf t r < k → Before t u p k r
 before-some t u p k r L h l e b = record { kid = λ _. record { above = rw (← e) (L .up r h l .1); used = l; parent = e }; below = λ _. b }
 
--- one of the used records, or none
-pub before-used : (t : List ℕ) (u p k prev : ℕ) → Before t u p k prev → prev ≤ u
-before-used t u p k prev B = go (ℕ-discrete prev 0)
-  where
-    go : Dec (prev ≡ 0) → prev ≤ u
-    go (yes z) = omega arith
-    go (no n) = B .kid n .used
-
 pub before-none : (t : List ℕ) (u p k : ℕ) → Before t u p k 0
 before-none t u p k = record { kid = λ n. absurd (n refl); below = λ n. absurd (n refl) }
 

@@ -53,14 +53,17 @@ fn place_behind(table: &[u32], used: u32, parent: u32, key: u32, after: u32) -> 
     Spot { prev, next: 0 }
 }
 
-// The same, from where a walk does best to begin.
+// The same, where 0 stands for no such child, and the walk begins where it does best. One that goes on from a child stays with its chain: the walks of a fill are one walk.
 pub fn place(table: &[u32], used: u32, parent: u32, key: u32, after: u32) -> Spot
     requires { ⌜ Linked (now table) used ⌝ }
     requires { ⌜ (1 ≤ parent) × (parent ≤ used) ⌝ }
     requires { ⌜ Before (now table) used parent key after ⌝ }
     ensures { λ s. ⌜ Place (now (table .entry)) used parent key (s .prev) (s .next) ⌝ }
 {
-    let near = start(table, used, parent, key, after);
+    if after != 0 {
+        return place_behind(table, used, parent, key, after);
+    }
+    let near = start(table, used, parent, key);
     place_behind(table, used, parent, key, near)
 }
 

@@ -29,8 +29,8 @@ pub struct Reached {
     pub number: u32,
 }
 
-// A child, 0 for none, and its key, 0 for none.
+// A child, 0 for none, and the lowest key of one that is nearer.
 pub struct Nearest {
     pub child: u32,
-    pub key: u32,
+    pub low: u32,
 }

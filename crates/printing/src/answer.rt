@@ -6,7 +6,7 @@ ghost use Rattle.trace.specs.Lines.{listRoom};
 use closing::Packed;
 use head::Head;
 use libc::STDOUT_FILENO;
-use limits::CODES_MAX;
+use limits::TYPES_ROOM;
 use report::close_into;
 use trace::LINE_ROOM;
 use trace::LIST_ROOM;
@@ -45,7 +45,7 @@ fn put_closing(
 
 // The closing, and what it answers.
 pub fn close_trace(head: Head, table: &mut [u32], code: &[u8], start: u32, packed: Packed) {
-    let mut types = [0u16; CODES_MAX];
+    let mut types = [0u16; TYPES_ROOM];
     let mut lines = [0u8; LIST_ROOM];
     put_closing(head, table, code, start, packed, &mut types, &mut lines);
 }

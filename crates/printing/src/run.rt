@@ -20,14 +20,12 @@ use limits::input::HEADER_START;
 use limits::input::HEADER_WIDTH;
 use limits::input::NUMBER_BYTES;
 use limits::input::TRACE_CODE_MAX;
+use limits::input::TRACE_NUMBERS;
 use trace::GROUP_ROOM;
 use trace::header_fits;
 use trace::number_at;
 use trace::read_numbers;
 use word::numbers::from_numbers;
-
-// Numbers of 1,480 records.
-const TABLE_ROOM: usize = 16280;
 
 // Bytes of the header.
 const HEADER_BYTES: usize = HEADER_WIDTH * NUMBER_BYTES;
@@ -92,7 +90,7 @@ fn finish(walk: Walk, table: &mut [u32], code: &[u8], start: u32, packed: Packed
 }
 
 fn run_steps(source: Source, code: &[u8], count: u32, start: u32, packed: Packed) -> Source {
-    let mut table = [0u32; TABLE_ROOM];
+    let mut table = [0u32; TRACE_NUMBERS];
     let opened = fresh::fresh(Head { used: 0, active: 0 }, &mut table);
     let head = opened.head;
     let mut group = [0u8; GROUP_ROOM];

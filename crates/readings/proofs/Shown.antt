@@ -34,6 +34,8 @@ use Rattle.list.specs.Seen.{seenOnes, lastFrom, lastWord}
 use Rattle.list.specs.Types.{nameHolds, byKind, wordsWith, typeAt, listOf}
 use Rattle.types.specs.Text.{text}
 use Rattle.types.specs.Tree.{count}
+use Rattle.trace.specs.Lines as lines
+use Rattle.report.specs.Answer.{answerText}
 use Rattle.names.specs.Text.{decimal, nameText}
 use Rattle.readings.specs.Said.{firstRefusal}
 use Rattle.readings.specs.Table.{bench, Shown}
@@ -45,5 +47,5 @@ unfolding bench firstRefusal lowOnes leadingFf bytesOf andMaskToType after after
     directMinCalldataWords analyze byOpcode lengthMarked multiply mul isWholeWord followed loadedFacts isFollowed unlabelledFacts loadFacts
     clearOperands clearHints rangeRule activeAfter insertNotBool markNotBool fill setDynamic setArray depthUp depthOf findTo findIn getMut ensure
     seenUp makeSeen getOrCreate withField update nodeOf ins kids kidsIn spendTo spend shallowTo shallow seenOnes lastFrom lastWord nameHolds byKind
-    wordsWith typeAt listOf text count decimal nameText
+    wordsWith typeAt listOf text count decimal nameText answerText lines.listLines lines.argsLine lines.entryLines lines.entryLine lines.decimal lines.places
 bench-shown = refl

@@ -4,15 +4,16 @@ use mathlib.Core.Bool.{cond}
 use mathlib.Core.List.{List, [], _∷_}
 use lib.Dec.{eqb}
 use lib.ListN.{length, replicate}
-use Rattle.limits.specs.Limits.{codesMax}
+use Rattle.limits.specs.Input.{traceRecords}
+use Rattle.limits.specs.Limits.{typesRoom}
 use Rattle.types.specs.Tree.{AbiTypes, count}
-use Rattle.types.specs.Text.{listText}
 use Rattle.facts.specs.State.{Node, nodeOf}
 use Rattle.list.specs.Types.{listOf}
 use Rattle.closing.specs.declared.Packed.the-variants.{Absent}
 use Rattle.closing.specs.Words.{Handed, filled}
 use Rattle.closing.specs.Answer.{Verdict, refused, none, over, granted}
 use Rattle.closing.specs.Call.{judge}
+use Rattle.report.specs.Answer.{answerText}
 use Rattle.calls.specs.Facts.{Call, step, closing, Known, stepRefusal, closingRefusal, after, known, start}
 
 pub data Said : Type 0 where
@@ -28,12 +29,12 @@ pub data Said : Type 0 where
   left : ℕ → Said
   -- the closing's answer, or the refusal of a call
   answer : Verdict → Said
-  -- the closing's answer, with the text of its list
-  printed : Verdict → List ℕ → Said
+  -- the lines that are printed of the closing, as bytes
+  printed : List ℕ → Said
 
 -- "the table has 1,480 records"
 abbrev pub records : ℕ
-records = 1480
+records = traceRecords
 
 -- "Empty code, no packed word"
 abbrev pub emptyCode : Handed
@@ -41,7 +42,7 @@ emptyCode = record { code = []; start = 0; packed = Absent }
 
 -- a type slice that question 9 takes
 abbrev pub types : List ℕ
-types = replicate codesMax 0
+types = replicate typesRoom 0
 
 -- the number of a call's refusal, 0 for none
 abbrev pub refusalOf : Known → Call → ℕ
@@ -80,7 +81,7 @@ abbrev pub listIn : List Node → Said
 listIn s = listBy (verdict s) (listOf (filled s emptyCode))
 
 abbrev pub printedIn : List Node → Said
-printedIn s = printed (verdict s) (listText (listOf (filled s emptyCode)))
+printedIn s = printed (answerText (verdict s) (listOf (filled s emptyCode)))
 
 abbrev pub leftBy : Verdict → Said
 leftBy (granted e l h) = left l

@@ -5,7 +5,7 @@ use mathlib.Core.List.{List, [], _∷_, map}
 use Rattle.limits.specs.Limits.{kindDynamic}
 use Rattle.limits.specs.Codes.{noName, address, uint, fixedBytes}
 use Rattle.mask.specs.Mask.{andMaskToType}
-use Rattle.closing.specs.Answer.{none, over, granted}
+use Rattle.closing.specs.Answer.{none, over}
 use Rattle.readings.specs.Steps.{loadAt, loadBehind, mulBy}
 use Rattle.readings.specs.Facts.{lone, chain}
 use Rattle.readings.specs.Said.{Said, name, facts, kind, list, left, answer, printed, trace, factsIn, kindIn, answerIn, listIn, printedIn, leftIn}
@@ -23,16 +23,18 @@ pub record Reading : Type 0 where
 abbrev pub reading : Name → Said → Said → Reading
 reading of defined paper = record { of = of; defined = defined; paper = paper }
 
--- "uint256[]"
-abbrev pub uint256Array : List ℕ
-uint256Array = 117 ∷ 105 ∷ 110 ∷ 116 ∷ 50 ∷ 53 ∷ 54 ∷ 91 ∷ 93 ∷ []
+-- "`args 1 left 8189 head 32` and `0 uint256[]`", as lines of bytes
+abbrev pub linesOfP1 : List ℕ
+linesOfP1 =
+    97 ∷ 114 ∷ 103 ∷ 115 ∷ 32 ∷ 49 ∷ 32 ∷ 108 ∷ 101 ∷ 102 ∷ 116 ∷ 32 ∷ 56 ∷ 49 ∷ 56 ∷ 57 ∷ 32 ∷ 104 ∷ 101 ∷ 97 ∷ 100 ∷ 32 ∷ 51 ∷ 50 ∷ 10
+    ∷ 48 ∷ 32 ∷ 117 ∷ 105 ∷ 110 ∷ 116 ∷ 50 ∷ 53 ∷ 54 ∷ 91 ∷ 93 ∷ 10 ∷ []
 
 -- all of them, in the paper's order
 unfoldable pub bench : List Reading
 bench =
     -- P1. "loads at word 4 unlabelled, then at (offset 0, root, added 4), then MUL of (offset 0, record 2) by 32. With one slot each it prints exactly
     -- `args 1 left 8189 head 32` and `0 uint256[]` (word number, type)."
-    reading P1 (trace (loadAt 4 tt ∷ loadBehind ∷ mulBy 32 tt ∷ []) printedIn) (printed (granted 1 8189 32) uint256Array)
+    reading P1 (trace (loadAt 4 tt ∷ loadBehind ∷ mulBy 32 tt ∷ []) printedIn) (printed linesOfP1)
     -- "P2 mask 0: none."
     ∷ reading P2 (name (andMaskToType 0)) (name noName)
     -- "P3 all ones: uint256."

@@ -51,7 +51,7 @@ pub fn close_into(
     out: &mut [u8],
 ) -> usize
     requires { ⌜ (length (now types) ≤ codesMax) × (listRoom ≤ length (now out)) ⌝ }
-    ensures { λ r. ⌜ Printed (lend (head .used) (head .active) (now (table .entry)) (now (types .entry))) (record { code = now (code .entry); start = start; packed = packed }) (now (out .entry)) r (now (out .exit)) ⌝ }
+    ensures { λ r. ⌜ Printed (lend (head .used) (head .active) (now (table .entry)) (now (types .entry))) (record { code = now (code .entry); start = start; packed = packed }) (now (out .entry)) r (now (out .exit)) (now (table .exit)) (now (types .exit)) ⌝ }
     ensures { λ r. ⌜ r ≤ length (now (out .exit)) ⌝ }
 {
     let closed = close(head, table, code, start, packed, types);

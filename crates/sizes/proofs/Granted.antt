@@ -6,7 +6,7 @@ use mathlib.Core.List.{List}
 use native.Mathlib.Omega.{arith}
 use lib.Dec.{leb}
 use borrow.Author.Tests.{leb-true}
-use Rattle.limits.specs.Limits.{codesMax, depthMax}
+use Rattle.limits.specs.Limits.{budgetMax, depthMax}
 use Rattle.types.specs.Tree.{AbiType, AbiTypes, cons, count, append, levels, mostLevels}
 use Rattle.types.specs.Codes.{allCodes, Passes}
 use Rattle.types.proofs.Sizes.{entry-levels}
@@ -30,13 +30,13 @@ module _ (s : List Node) (F : Formed s) (h : fitsBudget s ≡ true) where
   pub list-passes : Passes (listOf s) (allCodes (listOf s))
   list-passes =
       let a = list-codes s F in
-      let b = leb-true (spend s) codesMax (and-eq-true-iff (shallow s) (leb (spend s) codesMax) .0 h .1) in
+      let b = leb-true (spend s) budgetMax (and-eq-true-iff (shallow s) (leb (spend s) budgetMax) .0 h .1) in
       record { spells = record { formed = list-formed s F; spelt = refl }; most = omega arith }
 
   -- no entry has more than 129 levels
   pub list-entry : (us : AbiTypes) (t : AbiType) (vs : AbiTypes) → listOf s ≡ append us (cons t vs) → levels t ≤ 2 * depthMax + 1
   list-entry us t vs e =
-      let a = list-levels s F (and-eq-true-iff (shallow s) (leb (spend s) codesMax) .0 h .0) in
+      let a = list-levels s F (and-eq-true-iff (shallow s) (leb (spend s) budgetMax) .0 h .0) in
       let b = entry-levels us t vs in
       let c = ap mostLevels e in
       omega arith

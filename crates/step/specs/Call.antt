@@ -6,6 +6,7 @@ use mathlib.Core.List.{List}
 use lib.Dec.{eqb}
 use lib.ListN.{length, getD}
 use Rattle.limits.specs.Layout.{stepOp}
+use Rattle.limits.specs.Questions.{taken, countQuestion, soundQuestion, codeQuestion, sizesQuestion, labelsQuestion, fieldsQuestion, slotQuestion, roomQuestion}
 use Rattle.facts.specs.Count.{Counted}
 use Rattle.facts.specs.Sound.{Sound}
 use Rattle.facts.specs.State.{encode}
@@ -20,15 +21,15 @@ use Rattle.step.specs.Questions.{codeFits, sizesFit, labelsFit, fieldsFi
 
 -- document 01's number for each answer; the 0 of a step that is taken is ours
 abbrev pub numberOf : StepAnswer → ℕ
-numberOf Taken = 0
-numberOf NoRecords = 1
-numberOf Unsound = 2
-numberOf LongCode = 3
-numberOf BrokenSizes = 4
-numberOf BrokenLabels = 5
-numberOf BrokenFields = 6
-numberOf NoSlot = 7
-numberOf NoRoom = 8
+numberOf Taken = taken
+numberOf NoRecords = countQuestion
+numberOf Unsound = soundQuestion
+numberOf LongCode = codeQuestion
+numberOf BrokenSizes = sizesQuestion
+numberOf BrokenLabels = labelsQuestion
+numberOf BrokenFields = fieldsQuestion
+numberOf NoSlot = slotQuestion
+numberOf NoRoom = roomQuestion
 
 -- what goes along with every call: the head's two numbers, and the lent tables
 pub record Lent : Type 0 where
@@ -61,14 +62,14 @@ refusalOf N l bytes x = refusal N (l .used) (lent (l .table) (l .used) (l .stack
 -- the number that questions 3 to 8 give, and what is left: "the first "no" gives its number, and everything is left unchanged"
 pub record Judged (N : ℕ) (l : Lent) (bytes x : List ℕ) (number : ℕ) (l′ : Lent) : Type 0 where
   pub answers : number ≡ refusalOf N l bytes x
-  pub leaves : l′ ≡ cond (eqb number 0) (effect N l bytes x) l
+  pub leaves : l′ ≡ cond (eqb number taken) (effect N l bytes x) l
 
 -- the number of the answer, and what is left. "The questions are taken in this order" (`one-outcome`: there is one outcome only.)
 pub data Outcome (l : Lent) (bytes x : List ℕ) (number : ℕ) (l′ : Lent) : Type 0 where
   -- 1. "Is the fact table a multiple of 11 with 1 to 16,384 records?"
-  unfit : ((N : ℕ) → Counted (length (l .table)) N → ⊥) → number ≡ 1 → l′ ≡ l → Outcome l bytes x number l′
+  unfit : ((N : ℕ) → Counted (length (l .table)) N → ⊥) → number ≡ countQuestion → l′ ≡ l → Outcome l bytes x number l′
   -- 2. "Is it sound?"; that a decoder active above 1 is refused with it is ours
-  unsound : (N : ℕ) → Counted (length (l .table)) N → (Sound (l .table) (l .used) N → l .active ≤ 1 → ⊥) → number ≡ 2 → l′ ≡ l → Outcome l bytes x number l′
+  unsound : (N : ℕ) → Counted (length (l .table)) N → (Sound (l .table) (l .used) N → l .active ≤ 1 → ⊥) → number ≡ soundQuestion → l′ ≡ l → Outcome l bytes x number l′
   -- 3 to 8
   judged : (N : ℕ) → Counted (length (l .table)) N → Sound (l .table) (l .used) N → l .active ≤ 1 → Judged N l bytes x number l′ → Outcome l bytes x number l′
 

@@ -6,6 +6,7 @@ use lib.Dec.{eqb, leb, ltb}
 use lib.ListN.{length, getD}
 use Rattle.limits.specs.Limits.{codeMax, slotsMax, entriesMax}
 use Rattle.limits.specs.Layout.{slotWidth, slotLabel, entryWidth, stepWidth, stepOp, stepFirst, stepSecond, stepPick, stepLoadFlag, stepLoad}
+use Rattle.limits.specs.Questions.{taken, codeQuestion, sizesQuestion, labelsQuestion, fieldsQuestion, slotQuestion, roomQuestion}
 use Rattle.word.specs.Numbers.{wordAt}
 use Rattle.opcode.specs.Opcode.{LT, GT, CALLDATACOPY}
 use Rattle.opcode.specs.Lists.{listed, slotNeeders}
@@ -62,7 +63,7 @@ refusal N used m active bytes x =
     (cond (labelsFit used (m .stack) (m .memory) x)
     (cond (fieldsFit (m .memory) x)
     (cond (slotThere (m .stack) (getD x stepOp 0))
-    (cond (roomThere N m active bytes x) 0 8) 7) 6) 5) 4) 3
+    (cond (roomThere N m active bytes x) taken roomQuestion) slotQuestion) fieldsQuestion) labelsQuestion) sizesQuestion) codeQuestion
 
 -- LT or GT
 abbrev pub comparing : ℕ → Bool

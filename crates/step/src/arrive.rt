@@ -20,6 +20,15 @@ use head::Head;
 use labels::read_step;
 use limits::CODE_MAX;
 use limits::layout::STEP_OP;
+use limits::questions::CODE_QUESTION;
+use limits::questions::COUNT_QUESTION;
+use limits::questions::FIELDS_QUESTION;
+use limits::questions::LABELS_QUESTION;
+use limits::questions::ROOM_QUESTION;
+use limits::questions::SIZES_QUESTION;
+use limits::questions::SLOT_QUESTION;
+use limits::questions::SOUND_QUESTION;
+use limits::questions::TAKEN;
 use opcode::ends_decoder;
 use room::has_room;
 
@@ -28,15 +37,15 @@ pub fn number_of(answer: StepAnswer) -> u32
     ensures { λ r. ⌜ r ≡ numberOf answer ⌝ }
 {
     match answer {
-        StepAnswer::Taken => 0,
-        StepAnswer::NoRecords => 1,
-        StepAnswer::Unsound => 2,
-        StepAnswer::LongCode => 3,
-        StepAnswer::BrokenSizes => 4,
-        StepAnswer::BrokenLabels => 5,
-        StepAnswer::BrokenFields => 6,
-        StepAnswer::NoSlot => 7,
-        StepAnswer::NoRoom => 8,
+        StepAnswer::Taken => TAKEN,
+        StepAnswer::NoRecords => COUNT_QUESTION,
+        StepAnswer::Unsound => SOUND_QUESTION,
+        StepAnswer::LongCode => CODE_QUESTION,
+        StepAnswer::BrokenSizes => SIZES_QUESTION,
+        StepAnswer::BrokenLabels => LABELS_QUESTION,
+        StepAnswer::BrokenFields => FIELDS_QUESTION,
+        StepAnswer::NoSlot => SLOT_QUESTION,
+        StepAnswer::NoRoom => ROOM_QUESTION,
     }
 }
 

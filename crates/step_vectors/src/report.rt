@@ -3,7 +3,6 @@ ghost use Prim.Native.Nat.{_≤_, _<_};
 ghost use lib.ListN.{length};
 use facts::Records;
 use head::Head;
-use libc::STDOUT_FILENO;
 use limits::RECORD_WIDTH;
 use limits::layout::ENTRY_WIDTH;
 use limits::layout::SLOT_WIDTH;

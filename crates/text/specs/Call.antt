@@ -4,6 +4,7 @@ use Prim.Native.Nat.{ℕ, _≤_, _<_}
 use mathlib.Core.Path.{_≡_}
 use mathlib.Core.List.{List, _++_}
 use lib.ListN.{length, drop}
+use Rattle.limits.specs.Questions.{taken, typesQuestion, textQuestion}
 use Rattle.types.specs.Tree.{AbiTypes}
 use Rattle.types.specs.Codes.{Passes}
 use Rattle.types.specs.Text.{listText}
@@ -17,15 +18,15 @@ over t out = t ++ drop (length t) out
 -- What the call does with a list of codes and a slice, by document 01's numbers: the refusal's number, 0 for none, the text's length, 0 for a refusal,
 -- and what the slice holds then. (`one-outcome`: there is one outcome only.)
 pub data Outcome (cs out : List ℕ) (number n : ℕ) (out′ : List ℕ) : Type 0 where
-  written : (ts : AbiTypes) → Passes ts cs → length (listText ts) ≤ length out → number ≡ 0 → n ≡ length (listText ts) → out′ ≡ over (listText ts) out → Outcome cs out number n out′
-  no-types : ((ts : AbiTypes) → Passes ts cs → ⊥) → number ≡ 10 → n ≡ 0 → out′ ≡ out → Outcome cs out number n out′
-  too-long : (ts : AbiTypes) → Passes ts cs → length out < length (listText ts) → number ≡ 11 → n ≡ 0 → out′ ≡ out → Outcome cs out number n out′
+  written : (ts : AbiTypes) → Passes ts cs → length (listText ts) ≤ length out → number ≡ taken → n ≡ length (listText ts) → out′ ≡ over (listText ts) out → Outcome cs out number n out′
+  no-types : ((ts : AbiTypes) → Passes ts cs → ⊥) → number ≡ typesQuestion → n ≡ 0 → out′ ≡ out → Outcome cs out number n out′
+  too-long : (ts : AbiTypes) → Passes ts cs → length out < length (listText ts) → number ≡ textQuestion → n ≡ 0 → out′ ≡ out → Outcome cs out number n out′
 
 -- document 01's number for each answer; the 0 of a call that is taken is ours
 abbrev pub numberOf : TextAnswer → ℕ
-numberOf (Written n) = 0
-numberOf NotTypes = 10
-numberOf TooLong = 11
+numberOf (Written n) = taken
+numberOf NotTypes = typesQuestion
+numberOf TooLong = textQuestion
 
 -- and its value
 abbrev pub lengthOf : TextAnswer → ℕ

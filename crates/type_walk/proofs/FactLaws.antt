@@ -7,7 +7,7 @@ use native.Mathlib.Omega.{arith}
 use native.Mathlib.Nat.{add-zero}
 use lib.ListN.{length, set, length-append}
 use lib.Seq.{sets, length-sets}
-use Rattle.limits.specs.Limits.{codesMax}
+use Rattle.limits.specs.Limits.{typesRoom}
 use Rattle.spell.proofs.Stores.{sets-both}
 use Rattle.types.specs.Codes.{codes, allCodes}
 use Rattle.facts.specs.Sound.{Sound}
@@ -26,7 +26,7 @@ use Rattle.type_walk.proofs.LeafLaws.{leaf-codes}
 use Rattle.type_walk.proofs.WriteLaws.{words-codes}
 
 module _ (t : List ℕ) (u N r : ℕ) (S : Sound t u N) (r1 : 1 ≤ r) (ru : r ≤ u) (types : List ℕ) (at : ℕ)
-    (room : at + length (codes (typeOf (nodes t u) r)) ≤ codesMax) (long : codesMax ≤ length types) where
+    (room : at + length (codes (typeOf (nodes t u) r)) ≤ typesRoom) (long : typesRoom ≤ length types) where
   rn : r ≤ length (nodes t u)
   rn = let l = length-nodes t u in omega arith
 
@@ -38,7 +38,7 @@ module _ (t : List ℕ) (u N r : ℕ) (S : Sound t u N) (r1 : 1 ≤ r) (ru : r �
     leaf-length : length (codes (typeOf (nodes t u) r)) ≡ 1
     leaf-length = ap (λ (cs : List ℕ). length cs) (leaf-codes t u N r S r1 ru x e n)
 
-    pub leaf-fits : at + 1 ≤ codesMax
+    pub leaf-fits : at + 1 ≤ typesRoom
     leaf-fits = let l = leaf-length in omega arith
 
     pub leaf-done : (set types at x ≡ sets types at (codes (typeOf (nodes t u) r))) × (at + 1 ≡ at + length (codes (typeOf (nodes t u) r)))
@@ -71,10 +71,10 @@ module _ (t : List ℕ) (u N r : ℕ) (S : Sound t u N) (r1 : 1 ≤ r) (ru : r �
     inner-start = bounded .start
 
     module _ (types₁ : List ℕ) (to₁ : ℕ) (d : types₁ ≡ sets types at (leads p)) (q : to₁ ≡ at + length (leads p)) where
-      pub inner-fits : to₁ + length inner ≤ codesMax
+      pub inner-fits : to₁ + length inner ≤ typesRoom
       inner-fits = let l = plan-length in omega arith
 
-      pub inner-long : codesMax ≤ length types₁
+      pub inner-long : typesRoom ≤ length types₁
       inner-long = let l = ap (λ (x : List ℕ). length x) d ∙ length-sets types at (leads p) in omega arith
 
       pub plan-done : (types₂ : List ℕ) (to₂ : ℕ) → types₂ ≡ sets types₁ to₁ inner → to₂ ≡ to₁ + length inner

@@ -10,7 +10,7 @@ use lib.Dec.{eqb}
 use lib.ListN.{length, set, length-append}
 use lib.Seq.{sets, length-sets}
 use borrow.Author.Tests.{eqb-true, eq-eqb, ne-eqb}
-use Rattle.limits.specs.Limits.{wordBytes, codesMax}
+use Rattle.limits.specs.Limits.{wordBytes, typesRoom}
 use Rattle.spell.proofs.Stores.{sets-append, sets-both}
 use Rattle.names.specs.Elementary.{codeOf}
 use Rattle.types.specs.Codes.{codes, allCodes}
@@ -194,7 +194,7 @@ module _ (t : List ℕ) (u r start words : ℕ) (types₀ : List ℕ) (at : ℕ)
 
   -- the numbers of the words are small
   pub words-small : (types : List ℕ) (to c i : ℕ) → Writing t u r start words types₀ at types to c i → start ≤ 1
-      → at + length (allCodes (wordTypes (nodes t u) r start words)) ≤ codesMax → start + words ≤ codesMax + 1
+      → at + length (allCodes (wordTypes (nodes t u) r start words)) ≤ typesRoom → start + words ≤ typesRoom + 1
   words-small types to c i W s1 room = let h = words-codes (nodes t u) r start words in omega arith
 
   -- words written behind those written before
@@ -228,7 +228,7 @@ module _ (t : List ℕ) (u r start words : ℕ) (types₀ : List ℕ) (at : ℕ)
     pub word-length : length (allCodes (wordTypes (nodes t u) r (start + i) (words - i))) ≡ length cs + length rest
     word-length = ap (λ (ds : List ℕ). length ds) codes-split ∙ length-append cs rest
 
-    pub word-fits : at + length (allCodes (wordTypes (nodes t u) r start words)) ≤ codesMax → to + length cs ≤ codesMax
+    pub word-fits : at + length (allCodes (wordTypes (nodes t u) r start words)) ≤ typesRoom → to + length cs ≤ typesRoom
     word-fits room = let l = word-length in let d = W .ends in omega arith
 
     pub writing-next : (types′ : List ℕ) (to′ c′ : ℕ) → types′ ≡ sets types to cs → to′ ≡ to + length cs → Reached t u r (wordBytes * (start + i) + 1) c′
@@ -257,7 +257,7 @@ module _ (t : List ℕ) (u N r start words : ℕ) (S : Sound t u N) (r1 : 1 ≤ 
         let Z = sound-shaped t u N S in
         no-codes (nodes t u) r (start + i) (reached-before t u r (Z .linked) r1 ru (Z .root-parent) (wordBytes * (start + i)) c (W .reached) end e low)
 
-    pub gap-fits : at + length (allCodes (wordTypes (nodes t u) r start words)) ≤ codesMax → to + 1 ≤ codesMax
+    pub gap-fits : at + length (allCodes (wordTypes (nodes t u) r start words)) ≤ typesRoom → to + 1 ≤ typesRoom
     gap-fits room = word-fits t u r start words types₀ at types to c i W lt (wordCode ∷ []) gap-is room
 
     pub gap-next : (types′ : List ℕ) (to′ : ℕ) → types′ ≡ set types to wordCode → to′ ≡ to + 1 → Writing t u r start words types₀ at types′ to′ c (i + 1)
@@ -274,7 +274,7 @@ module _ (t : List ℕ) (u N r start words : ℕ) (S : Sound t u N) (r1 : 1 ≤ 
         let F = reached-found t u r (Z .linked) r1 ru (Z .root-parent) (wordBytes * (start + i)) c (W .reached) n key in
         word-codes (nodes t u) r (start + i) c (F .0) n (seen-at t u c 1 n (F .1) (sym seen))
 
-    pub child-fits : at + length (allCodes (wordTypes (nodes t u) r start words)) ≤ codesMax → to + length (codes (typeOf (nodes t u) c)) ≤ codesMax
+    pub child-fits : at + length (allCodes (wordTypes (nodes t u) r start words)) ≤ typesRoom → to + length (codes (typeOf (nodes t u) c)) ≤ typesRoom
     child-fits room = word-fits t u r start words types₀ at types to c i W lt (codes (typeOf (nodes t u) c)) word-is room
 
     pub child-next : (types′ : List ℕ) (to′ c′ : ℕ) → types′ ≡ sets types to (codes (typeOf (nodes t u) c)) → to′ ≡ to + length (codes (typeOf (nodes t u) c))
@@ -290,7 +290,7 @@ module _ (t : List ℕ) (u N r start words : ℕ) (S : Sound t u N) (r1 : 1 ≤ 
       none-is : wordCodes (nodes t u) r (start + i) ≡ wordCode ∷ []
       none-is = childless-codes (nodes t u) ordered r (start + i) (sym e ∙ z)
 
-      pub none-fits : at + length (allCodes (wordTypes (nodes t u) r start words)) ≤ codesMax → to + 1 ≤ codesMax
+      pub none-fits : at + length (allCodes (wordTypes (nodes t u) r start words)) ≤ typesRoom → to + 1 ≤ typesRoom
       none-fits room = word-fits t u r start words types₀ at types to c i W lt (wordCode ∷ []) none-is room
 
       pub none-next : (types′ : List ℕ) (to′ c′ : ℕ) → types′ ≡ set types to wordCode → to′ ≡ to + 1 → Reached t u r (wordBytes * (start + i) + 1) c′
@@ -304,7 +304,7 @@ module _ (t : List ℕ) (u N r start words : ℕ) (S : Sound t u N) (r1 : 1 ≤ 
       pub some-above : r < q
       some-above = child-above (nodes t u) r (start + i) q ordered r1 e n .0
 
-      pub some-fits : at + length (allCodes (wordTypes (nodes t u) r start words)) ≤ codesMax → to + length (codes (typeOf (nodes t u) q)) ≤ codesMax
+      pub some-fits : at + length (allCodes (wordTypes (nodes t u) r start words)) ≤ typesRoom → to + length (codes (typeOf (nodes t u) q)) ≤ typesRoom
       some-fits room = word-fits t u r start words types₀ at types to c i W lt (codes (typeOf (nodes t u) q)) some-is room
 
       pub some-next : (types′ : List ℕ) (to′ c′ : ℕ) → types′ ≡ sets types to (codes (typeOf (nodes t u) q)) → to′ ≡ to + length (codes (typeOf (nodes t u) q))

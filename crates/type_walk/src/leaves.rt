@@ -2,7 +2,7 @@
 ghost use mathlib.Core.Path.{_≡_};
 ghost use Prim.Native.Nat.{_+_, _*_, _≤_};
 ghost use lib.ListN.{length};
-ghost use Rattle.limits.specs.Limits.{codesMax, wordBytes};
+ghost use Rattle.limits.specs.Limits.{typesRoom, wordBytes};
 ghost use Rattle.facts.specs.State.{nodes};
 ghost use Rattle.facts.specs.Sound.{Sound};
 ghost use Rattle.types.specs.Codes.{allCodes};
@@ -53,10 +53,10 @@ pub fn write_gap(
     at: usize,
 ) -> Run
     requires { ⌜ Sound (now table) used n ⌝ }
-    requires { ⌜ (1 ≤ r) × (r ≤ used) × (start + words ≤ codesMax + 1) ⌝ }
+    requires { ⌜ (1 ≤ r) × (r ≤ used) × (start + words ≤ typesRoom + 1) ⌝ }
     requires { ⌜ Reached (now table) used r (wordBytes * start) first ⌝ }
-    requires { ⌜ at + length (allCodes (wordTypes (nodes (now table) used) r start words)) ≤ codesMax ⌝ }
-    requires { ⌜ codesMax ≤ length (now types) ⌝ }
+    requires { ⌜ at + length (allCodes (wordTypes (nodes (now table) used) r start words)) ≤ typesRoom ⌝ }
+    requires { ⌜ typesRoom ≤ length (now types) ⌝ }
     ensures { λ w. ⌜ Writing (now (table .entry)) used r start words (now (types .entry)) at (now (types .exit)) (w .to) first (w .done) ⌝ }
     ensures { λ w. ⌜ (first ≡ 0 → w .done ≡ words) ⌝ }
 {

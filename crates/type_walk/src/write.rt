@@ -5,7 +5,7 @@ ghost use Prim.Native.Nat.{_+_, _*_, _^_, _≤_, _<_};
 ghost use lib.Dec.{eqb};
 ghost use lib.ListN.{length};
 ghost use lib.Seq.{sets};
-ghost use Rattle.limits.specs.Limits.{codesMax, wordBytes};
+ghost use Rattle.limits.specs.Limits.{typesRoom, wordBytes};
 ghost use Rattle.facts.specs.Table.{keyOf, seenOf};
 ghost use Rattle.facts.specs.State.{nodes};
 ghost use Rattle.facts.specs.Sound.{Sound};
@@ -52,7 +52,7 @@ fn put_plan(types: &mut [u16], at: usize, plan: Plan) -> usize
 // Is the record seen, and its key the word's?
 fn is_at(table: &[u32], n: u32, used: u32, c: u32, word: u32) -> bool
     requires { ⌜ Shaped (now table) used n ⌝ }
-    requires { ⌜ (1 ≤ c) × (c ≤ used) × (word ≤ codesMax) ⌝ }
+    requires { ⌜ (1 ≤ c) × (c ≤ used) × (word ≤ typesRoom) ⌝ }
     ensures { λ b. ⌜ b ≡ eqb (keyOf (now (table .entry)) c) (wordBytes * word) && eqb (seenOf (now (table .entry)) c) 1 ⌝ }
 {
     let here = field(table, c, KEY) == WORD_BYTES * word;
@@ -63,7 +63,7 @@ fn is_at(table: &[u32], n: u32, used: u32, c: u32, word: u32) -> bool
 // The seen child at a word, looked for from first on.
 fn find_word(table: &[u32], n: u32, used: u32, r: u32, word: u32, first: u32) -> Found
     requires { ⌜ Shaped (now table) used n ⌝ }
-    requires { ⌜ (1 ≤ r) × (r ≤ used) × (word ≤ codesMax) ⌝ }
+    requires { ⌜ (1 ≤ r) × (r ≤ used) × (word ≤ typesRoom) ⌝ }
     requires { ⌜ Reached (now table) used r (wordBytes * word) first ⌝ }
     ensures { λ f. ⌜ (f .child ≡ wordChild (nodes (now (table .entry)) used) r word) × (f .child ≤ used) ⌝ }
     ensures { λ f. ⌜ Reached (now (table .entry)) used r (wordBytes * word + 1) (f .next) ⌝ }
@@ -91,8 +91,8 @@ fn find_word(table: &[u32], n: u32, used: u32, r: u32, word: u32, first: u32) ->
 fn write_type(table: &[u32], n: u32, used: u32, r: u32, types: &mut [u16], at: usize) -> usize
     requires { ⌜ Sound (now table) used n ⌝ }
     requires { ⌜ (1 ≤ r) × (r ≤ used) ⌝ }
-    requires { ⌜ at + length (codes (typeOf (nodes (now table) used) r)) ≤ codesMax ⌝ }
-    requires { ⌜ codesMax ≤ length (now types) ⌝ }
+    requires { ⌜ at + length (codes (typeOf (nodes (now table) used) r)) ≤ typesRoom ⌝ }
+    requires { ⌜ typesRoom ≤ length (now types) ⌝ }
     ensures { λ _. ⌜ now (types .exit) ≡ sets (now (types .entry)) at (codes (typeOf (nodes (now (table .entry)) used) r)) ⌝ }
     ensures { λ to. ⌜ to ≡ at + length (codes (typeOf (nodes (now (table .entry)) used) r)) ⌝ }
 {
@@ -108,8 +108,8 @@ fn write_type(table: &[u32], n: u32, used: u32, r: u32, types: &mut [u16], at: u
 fn write_planned(table: &[u32], n: u32, used: u32, r: u32, types: &mut [u16], at: usize) -> usize
     requires { ⌜ Sound (now table) used n ⌝ }
     requires { ⌜ (1 ≤ r) × (r ≤ used) ⌝ }
-    requires { ⌜ at + length (codes (typeOf (nodes (now table) used) r)) ≤ codesMax ⌝ }
-    requires { ⌜ codesMax ≤ length (now types) ⌝ }
+    requires { ⌜ at + length (codes (typeOf (nodes (now table) used) r)) ≤ typesRoom ⌝ }
+    requires { ⌜ typesRoom ≤ length (now types) ⌝ }
     ensures { λ _. ⌜ now (types .exit) ≡ sets (now (types .entry)) at (codes (typeOf (nodes (now (table .entry)) used) r)) ⌝ }
     ensures { λ to. ⌜ to ≡ at + length (codes (typeOf (nodes (now (table .entry)) used) r)) ⌝ }
 {
@@ -138,8 +138,8 @@ pub fn write_words(
 ) -> usize
     requires { ⌜ Sound (now table) used n ⌝ }
     requires { ⌜ (1 ≤ r) × (r ≤ used) × (start ≤ 1) ⌝ }
-    requires { ⌜ at + length (allCodes (wordTypes (nodes (now table) used) r start words)) ≤ codesMax ⌝ }
-    requires { ⌜ codesMax ≤ length (now types) ⌝ }
+    requires { ⌜ at + length (allCodes (wordTypes (nodes (now table) used) r start words)) ≤ typesRoom ⌝ }
+    requires { ⌜ typesRoom ≤ length (now types) ⌝ }
     ensures { λ _. ⌜ now (types .exit) ≡ sets (now (types .entry)) at (allCodes (wordTypes (nodes (now (table .entry)) used) r start words)) ⌝ }
     ensures { λ to. ⌜ to ≡ at + length (allCodes (wordTypes (nodes (now (table .entry)) used) r start words)) ⌝ }
 {

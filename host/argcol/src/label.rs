@@ -1,6 +1,7 @@
 //! Labels, slots, memory entries and steps, to and from the numbers of document 01.
 
 use crate::word::{BadNumbers, Word};
+use std::fmt;
 
 /// Numbers of a label, a slot, a memory entry and a step.
 pub const LABEL: usize = 13;
@@ -84,6 +85,21 @@ impl TryFrom<&[u32; LABEL]> for Label {
             _ => return Err(BadNumbers("a label's kind is 0 to 3")),
         };
         if <[u32; LABEL]>::from(label) == *numbers { Ok(label) } else { Err(BadNumbers("what a label doesn't use is 0")) }
+    }
+}
+
+/// In the words of the text form of traces.
+impl fmt::Display for Label {
+    fn fmt(&self, f: &mut fmt::Formatter<'_>) -> fmt::Result {
+        let (name, arg) = match self {
+            Self::None => return f.pad("none"),
+            Self::CallData => return f.pad("calldata"),
+            Self::Arg(arg) => ("arg", arg),
+            Self::ZeroTest(arg) => ("zero-test", arg),
+        };
+        let added = if arg.added == 0 { String::new() } else { format!(" add {}", arg.added) };
+        let mask = arg.mask.map_or(String::new(), |mask| format!(" mask {mask}"));
+        f.pad(&format!("{name} {} path {}{added}{mask}", arg.offset, arg.path))
     }
 }
 

@@ -6,7 +6,7 @@
 //!
 //! The calls are functions of a static library that is proved in Rattle (`crates/exports`); this crate converts and links, and is not proved. They take no
 //! memory and have no state of their own, so sessions may run side by side. They call themselves once for each level of the facts: the deepest facts that a
-//! table can hold take a little more than 1 MB of stack.
+//! table can hold (16,384 records in one chain) take between 1.0 and 1.13 MB of the calling thread's stack.
 //!
 //! Two loads and a multiplication by 32, which an array's decoder does:
 //!
@@ -27,10 +27,11 @@
 //! }
 //! let Closing::Granted(list) = session.close(&[], 0, None)? else { panic!("an argument is known") };
 //! assert_eq!(list.to_string(), "uint256[]");
-//! assert_eq!((list.types.len(), list.left, list.head_length), (1, 8189, 32));
+//! assert_eq!((list.types().len(), list.left(), list.head_length()), (1, 8189, 32));
 //! # Ok::<(), argcol::Refused>(())
 //! ```
 
+mod closing;
 mod label;
 pub mod raw;
 mod refused;
@@ -39,8 +40,9 @@ pub mod trace;
 mod types;
 mod word;
 
+pub use closing::{Answer, Closing, List};
 pub use label::{Arg, ENTRY, Entry, LABEL, Label, SLOT, STEP, Slot, Step};
 pub use refused::Refused;
-pub use session::{Answer, Closing, RECORD, Session, Taken};
-pub use types::{List, TYPES, Type, text, text_into};
+pub use session::{MOST_RECORDS, RECORD, Session, Taken};
+pub use types::{TYPES, Type, text, text_into};
 pub use word::{BadNumbers, Word};

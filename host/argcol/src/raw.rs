@@ -1,5 +1,8 @@
-//! The C functions of the archive, on numbers and slices, for this library and for the comparison. In C a slice is a pointer and a length; none of them asks anything of its numbers, and none keeps
-//! a pointer. Each returns document 01's number of the refusal, 0 for a call that is taken.
+//! The C functions of the archive, on numbers and slices, for this library and for the comparison. In C a slice is a pointer and a length; none of them
+//! asks anything of its numbers, and none keeps a pointer. Each returns document 01's number of the refusal, 0 for a call that is taken.
+//!
+//! A step and a closing call themselves once for each level of the facts: the deepest table (16,384 records in one chain) takes between 1.0 and 1.13 MB
+//! of the calling thread's stack.
 
 // as crates/exports/argcol.h has them
 mod archive {
@@ -28,8 +31,7 @@ mod archive {
             code_len: usize,
             start: u32,
             flag: u32,
-            word: *const u32,
-            word_len: usize,
+            word: &[u32; 8],
             types: *mut u16,
             types_len: usize,
             kind: &mut u32,
@@ -83,8 +85,8 @@ pub fn step(head: &mut Head, table: &mut [u32], code: &[u8], stack: &mut [u32], 
     }
 }
 
-/// At flag 0 there is no packed word. 100 is a number beside document 01's: the flag is above 1, or it is 1 and the word isn't eight numbers.
-pub fn closing(head: &mut Head, table: &mut [u32], code: &[u8], start: u32, flag: u32, word: &[u32], types: &mut [u16]) -> Answered {
+/// At flag 0 there is no packed word, and its numbers may be anything.
+pub fn closing(head: &mut Head, table: &mut [u32], code: &[u8], start: u32, flag: u32, word: &[u32; 8], types: &mut [u16]) -> Answered {
     // every call writes all of them
     let unwritten = u32::MAX;
     let mut said = Answered { number: unwritten, kind: unwritten, entries: unwritten, left: unwritten, length: unwritten };
@@ -98,8 +100,7 @@ pub fn closing(head: &mut Head, table: &mut [u32], code: &[u8], start: u32, flag
             code.len(),
             start,
             flag,
-            word.as_ptr(),
-            word.len(),
+            word,
             types.as_mut_ptr(),
             types.len(),
             &mut said.kind,

@@ -1,14 +1,18 @@
 use crate::{
+    closing::{Answer, Closing, List},
     label::{ENTRY, Entry, SLOT, STEP, Slot, Step},
     raw::{self, Head},
     refused::Refused,
-    types::{List, TYPES, Type},
+    types::TYPES,
     word::Word,
 };
 use std::ops::Range;
 
 /// Numbers of a record.
 pub const RECORD: usize = 11;
+
+/// The most records that a table has.
+pub const MOST_RECORDS: usize = 16_384;
 
 /// The facts about one function's arguments, and the calls on them.
 #[derive(Clone, Debug)]
@@ -26,29 +30,11 @@ pub struct Taken {
     pub made: Range<u32>,
 }
 
-/// A closing's answer.
-#[derive(Clone, Debug, PartialEq, Eq)]
-pub enum Closing {
-    /// No argument is known.
-    None,
-    /// Too large to say.
-    Over,
-    Granted(List),
-}
-
-/// A closing's answer, its list left as codes.
-#[derive(Clone, Copy, Debug, PartialEq, Eq)]
-pub enum Answer {
-    None,
-    Over,
-    Granted { entries: u32, left: u32, head_length: u32 },
-}
-
 impl Session {
     /// A fresh table of so many records, 1 to 16,384: a lone root, the decoder active.
     pub fn new(records: usize) -> Result<Self, Refused> {
         // a count that is too large is refused by the core, at the least table that it refuses
-        let mut session = Self::from_numbers(0, 0, vec![0; RECORD * records.min(16_385)]);
+        let mut session = Self::from_numbers(0, 0, vec![0; RECORD * records.min(MOST_RECORDS + 1)]);
         Refused::check(raw::fresh(&mut session.head, &mut session.table))?;
         Ok(session)
     }
@@ -68,9 +54,9 @@ impl Session {
         self.head.used
     }
 
-    /// 1 while the decoder is active, else 0.
-    pub fn active(&self) -> u32 {
-        self.head.active
+    /// Whether the decoder is active.
+    pub fn active(&self) -> bool {
+        self.head.active == 1
     }
 
     /// The fact table's numbers.
@@ -79,6 +65,7 @@ impl Session {
     }
 
     /// Takes a step. The top of the stack is the last slot. All slots and entries are turned into numbers and back; `step_numbers` saves that.
+    /// Takes up to 1.13 MB of the thread's stack, by the depth of the facts.
     pub fn step(&mut self, code: &[u8], stack: &mut [Slot], memory: &mut [Entry], step: &Step) -> Result<Taken, Refused> {
         self.stack.clear();
         self.stack.extend(stack.iter().flat_map(|slot| <[u32; SLOT]>::from(*slot)));
@@ -98,7 +85,7 @@ impl Session {
         Ok(Taken { made: used + 1..self.head.used + 1 })
     }
 
-    /// Takes a step in numbers, any at all; nothing is copied.
+    /// Takes a step in numbers, any at all; nothing is copied. Takes up to 1.13 MB of the thread's stack, by the depth of the facts.
     pub fn step_numbers(&mut self, code: &[u8], stack: &mut [u32], memory: &mut [u32], step: &[u32]) -> Result<Taken, Refused> {
         let used = self.head.used;
         Refused::check(raw::step(&mut self.head, &mut self.table, code, stack, memory, step))?;
@@ -106,26 +93,18 @@ impl Session {
     }
 
     /// Closes: the list of types that the facts give. The packed word is the stack's top at the start, if there is one.
+    /// Takes up to 1.13 MB of the thread's stack, by the depth of the facts.
     pub fn close(&mut self, code: &[u8], start: u32, packed: Option<Word>) -> Result<Closing, Refused> {
         let mut types = vec![0; TYPES];
-        let (entries, left, head_length) = match self.close_into(code, start, packed, &mut types)? {
-            Answer::None => return Ok(Closing::None),
-            Answer::Over => return Ok(Closing::Over),
-            Answer::Granted { entries, left, head_length } => (entries, left, head_length),
-        };
-        let mut rest = &types[..];
-        let list = (0..entries).map(|_| {
-            let (ty, behind) = Type::split(rest).expect("a granted list is of well-formed types");
-            rest = behind;
-            ty
-        });
-        let list = list.collect();
-        let length = types.len() - rest.len();
-        types.truncate(length);
-        Ok(Closing::Granted(List { types: list, codes: types, left, head_length }))
+        Ok(match self.close_into(code, start, packed, &mut types)? {
+            Answer::None => Closing::None,
+            Answer::Over => Closing::Over,
+            Answer::Granted { entries, left, head_length } => Closing::Granted(List::new(types, entries, left, head_length)),
+        })
     }
 
     /// Closes, with the codes in a buffer of the caller's, 8,192 numbers or more. What lies beyond the list keeps its value.
+    /// Takes up to 1.13 MB of the thread's stack, by the depth of the facts.
     pub fn close_into(&mut self, code: &[u8], start: u32, packed: Option<Word>, types: &mut [u16]) -> Result<Answer, Refused> {
         let said = raw::closing(&mut self.head, &mut self.table, code, start, u32::from(packed.is_some()), &packed.unwrap_or_default().0, types);
         Refused::check(said.number)?;

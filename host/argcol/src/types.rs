@@ -22,76 +22,74 @@ pub enum Type {
 }
 
 impl Type {
-    /// The types that a list of codes stands for.
-    pub fn from_codes(mut codes: &[u16]) -> Result<Vec<Self>, BadNumbers> {
-        let mut out = Vec::new();
-        while !codes.is_empty() {
-            let (ty, rest) = Self::split(codes)?;
-            out.push(ty);
-            codes = rest;
+    /// The types that a list of codes stands for. As question 10 does, it refuses more than 8,192 codes, which bounds the depth of what it gives.
+    pub fn from_codes(codes: &[u16]) -> Result<Vec<Self>, BadNumbers> {
+        if codes.len() > TYPES {
+            return Err(BadNumbers("a list has at most 8,192 codes"));
         }
-        Ok(out)
+        // from the back, where a type's parts are met before it: no depth takes stack
+        let mut behind = Vec::new();
+        for code in codes.iter().rev() {
+            let ty = Self::join(*code, &mut behind)?;
+            behind.push(ty);
+        }
+        behind.reverse();
+        Ok(behind)
     }
 
-    /// The first type, and the codes behind it.
-    pub(crate) fn split(codes: &[u16]) -> Result<(Self, &[u16]), BadNumbers> {
-        let (&code, mut rest) = codes.split_first().ok_or(BadNumbers("a type's codes are cut short"))?;
-        let ty = match code {
+    /// The type of a code and of the types behind it, of which the next one is last; its parts are taken off these.
+    fn join(code: u16, behind: &mut Vec<Self>) -> Result<Self, BadNumbers> {
+        const CUT: BadNumbers = BadNumbers("a type's codes are cut short");
+        Ok(match code {
             1 => Self::Bool,
             2 => Self::Address,
             3 => Self::Bytes,
             4 => Self::String,
-            5 => {
-                let (inner, behind) = Self::split(rest)?;
-                rest = behind;
-                Self::Array(Box::new(inner))
-            }
-            1008..=1256 if code % 8 == 0 => Self::Uint(code - 1000),
-            2008..=2256 if code % 8 == 0 => Self::Int(code - 2000),
+            5 => Self::Array(Box::new(behind.pop().ok_or(CUT)?)),
+            1008..=1256 if code.is_multiple_of(8) => Self::Uint(code - 1000),
+            2008..=2256 if code.is_multiple_of(8) => Self::Int(code - 2000),
             3001..=3032 => Self::FixedBytes(code - 3000),
             16386.. => {
-                let mut parts = Vec::new();
-                for _ in 0..code - 16384 {
-                    let (part, behind) = Self::split(rest)?;
-                    parts.push(part);
-                    rest = behind;
-                }
-                Self::Tuple(parts)
+                let left = behind.len().checked_sub(usize::from(code) - 16384).ok_or(CUT)?;
+                Self::Tuple(behind.drain(left..).rev().collect())
             }
             _ => return Err(BadNumbers("no type has this code")),
-        };
-        Ok((ty, rest))
+        })
     }
 
     /// The codes. A part that is no ABI type, as `Uint(7)`, has 0, which is no code.
     pub fn codes(&self) -> Vec<u16> {
-        let mut out = Vec::new();
-        self.put_codes(&mut out);
+        let (mut out, mut rest) = (Vec::new(), vec![self]);
+        while let Some(ty) = rest.pop() {
+            out.push(ty.code());
+            match ty {
+                Self::Array(inner) => rest.push(inner),
+                Self::Tuple(parts) => rest.extend(parts.iter().rev()),
+                _ => (),
+            }
+        }
         out
     }
 
-    fn put_codes(&self, out: &mut Vec<u16>) {
+    /// The first of the codes.
+    fn code(&self) -> u16 {
         let fit = |base: u16, fits: bool, width: u16| if fits { base + width } else { 0 };
-        out.push(match self {
+        match self {
             Self::Bool => 1,
             Self::Address => 2,
             Self::Bytes => 3,
             Self::String => 4,
             Self::Array(_) => 5,
-            Self::Uint(bits) => fit(1000, matches!(bits, 8..=256) && bits % 8 == 0, *bits),
-            Self::Int(bits) => fit(2000, matches!(bits, 8..=256) && bits % 8 == 0, *bits),
+            Self::Uint(bits) => fit(1000, matches!(bits, 8..=256) && bits.is_multiple_of(8), *bits),
+            Self::Int(bits) => fit(2000, matches!(bits, 8..=256) && bits.is_multiple_of(8), *bits),
             Self::FixedBytes(bytes) => fit(3000, matches!(bytes, 1..=32), *bytes),
             Self::Tuple(parts) => fit(16384, matches!(parts.len(), 2..TYPES), parts.len() as u16),
-        });
-        match self {
-            Self::Array(inner) => inner.put_codes(out),
-            Self::Tuple(parts) => parts.iter().for_each(|part| part.put_codes(out)),
-            _ => (),
         }
     }
 }
 
-/// The canonical text, by the proved text call. A value that is no ABI type, as `Uint(7)`, is shown as `Debug` does.
+/// The canonical text, by the proved text call. What that call refuses is shown as `Debug` does: a value that is no ABI type, as `Uint(7)`, or one of
+/// more than 8,192 codes, which can only be made by hand.
 impl fmt::Display for Type {
     fn fmt(&self, f: &mut fmt::Formatter<'_>) -> fmt::Result {
         match text(&self.codes()) {
@@ -115,24 +113,4 @@ pub fn text_into(codes: &[u16], out: &mut [u8]) -> Result<usize, Refused> {
     let (number, length) = raw::text(codes, out);
     Refused::check(number)?;
     Ok(length)
-}
-
-/// A granted list.
-#[derive(Clone, Debug, PartialEq, Eq)]
-pub struct List {
-    /// One type for each argument word, from word 0.
-    pub types: Vec<Type>,
-    /// The same types as codes.
-    pub codes: Vec<u16>,
-    /// What is left of the budget of 8,192.
-    pub left: u32,
-    /// 32 for each entry.
-    pub head_length: u32,
-}
-
-/// The canonical text, by the proved text call.
-impl fmt::Display for List {
-    fn fmt(&self, f: &mut fmt::Formatter<'_>) -> fmt::Result {
-        f.pad(&text(&self.codes).map_err(|_| fmt::Error)?)
-    }
 }

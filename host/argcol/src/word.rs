@@ -65,7 +65,9 @@ impl FromStr for Word {
 
     fn from_str(text: &str) -> Result<Self, BadNumbers> {
         let Some(digits) = text.strip_prefix("0x") else {
-            return text.parse::<u64>().map(Self::from).map_err(|_| BadNumbers("a word is decimal below 2^64, or hex behind 0x"));
+            // the digits are tested first, since `parse` takes a sign
+            let value = if text.bytes().all(|digit| digit.is_ascii_digit()) { text.parse::<u64>().ok() } else { None };
+            return value.map(Self::from).ok_or(BadNumbers("a word is decimal below 2^64, or hex behind 0x"));
         };
         if digits.is_empty() || digits.len() > 64 || !digits.bytes().all(|digit| digit.is_ascii_hexdigit()) {
             return Err(BadNumbers("a word in hex has 1 to 64 digits"));

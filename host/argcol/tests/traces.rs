@@ -1,7 +1,9 @@
 //! Traces as text and as the trace printer's bytes.
 
-use argcol::Word;
-use argcol::trace::{Trace, TraceStep};
+use argcol::{
+    Arg, ENTRY, Entry, Label, SLOT, STEP, Slot, Step, Word,
+    trace::{CODE_LIMIT, COUNT_LIMIT, Trace, TraceStep},
+};
 use std::{
     io::Write,
     process::{Command, Output, Stdio},
@@ -79,21 +81,80 @@ fn text_is_plain() {
     assert_eq!(Trace::from_text(text).unwrap().to_text(), text);
 }
 
+/// The sample in the module's comment.
 #[test]
-fn what_is_no_trace() {
+fn the_documented_form() {
+    let source = include_str!("../src/trace/mod.rs");
+    let lines = source.lines().skip_while(|line| *line != "//! ```text").skip(1).take_while(|line| *line != "//! ```");
+    let text: String = lines.map(|line| line.strip_prefix("//! ").unwrap().to_string() + "\n").collect();
+    let trace = Trace::from_text(&text).unwrap();
+    let (arg, mask) = (Arg::at(0, 2).plus(4), 0xffu32);
+    let step =
+        Step { op: 0x02, pc: 7, operands: [Slot::new(0u32, arg.masked(mask)), Slot::plain(32u32)], pick: Some(0), load: Some(Label::CallData) };
+    let slots = vec![Slot::new(5u32, Label::ZeroTest(Arg::at(4, 1))).into()];
+    let entries = vec![Entry { offset: 64, replaced: true, label: Label::CallData }.into()];
+    let steps = vec![TraceStep { numbers: (&step).into(), slots, entries }];
+    assert_eq!(trace, Trace { code: vec![0x60, 0x80], start: 12, packed: true, word: 10u32.into(), steps });
+}
+
+#[test]
+fn what_is_no_text() {
     for (text, line) in [
         ("slot 5", 1),
         ("step MUL\n\nfirst", 3),
         ("step MULL", 1),
+        ("step +2", 1),
         ("step MUL pc 4294967296", 1),
+        ("step MUL pc +1", 1),
         ("step MUL\nfirst 1 arg 2", 2),
         ("step MUL\nslot 1 numbers 2 3", 2),
+        ("step MUL\nslot 1 none 2", 2),
         ("code 0x123", 1),
+        ("code 0x+1", 1),
+        ("code 0x-1", 1),
+        ("code 0x6080\ncode 0x 60", 2),
+        ("code 6080", 1),
         ("start 1 2", 1),
+        ("start +1", 1),
+        ("packed 0x+1", 1),
         ("stop", 1),
     ] {
         assert_eq!(Trace::from_text(text).unwrap_err().line, Some(line), "{text}");
     }
+    let long = "code 0x".to_string() + &"00".repeat(CODE_LIMIT);
+    assert_eq!(Trace::from_text(&long).unwrap().code.len(), CODE_LIMIT);
+    assert_eq!(Trace::from_text(&(long + "\ncode 0x00")).unwrap_err().line, Some(2));
+    for line in ["slot 0\n", "entry 0\n"] {
+        let lines = |count| "step MUL\n".to_string() + &line.repeat(count);
+        assert!(Trace::from_text(&lines(COUNT_LIMIT)).is_ok());
+        assert_eq!(Trace::from_text(&lines(COUNT_LIMIT + 1)).unwrap_err().line, Some(COUNT_LIMIT + 2));
+    }
+}
+
+#[test]
+fn lines_that_stand_once() {
+    for (first, second, name) in [
+        ("start 0", "start 0", "start"),
+        ("packed 1", "packed 1", "packed or unpacked"),
+        ("packed 1", "unpacked 1", "packed or unpacked"),
+        ("unpacked 0", "packed 0", "packed or unpacked"),
+        ("first 0", "first 1", "first"),
+        ("second 0", "second 1", "second"),
+        ("pick 0", "pick 0", "pick"),
+        ("load calldata", "load calldata", "load or load-flag"),
+        ("load-flag 0", "load calldata", "load or load-flag"),
+    ] {
+        let bad = Trace::from_text(&format!("step MUL\n{first}\nslot 0\n{second}\n")).unwrap_err();
+        assert_eq!((bad.line, bad.reason), (Some(4), format!("a second line of {name}")));
+        let other = Trace::from_text(&format!("step MUL\n{first}\nstep MUL\n{second}\n"));
+        assert_eq!(other.is_ok(), !["start", "packed or unpacked"].contains(&name), "each step has its own lines");
+    }
+    let joined = Trace::from_text("code 0x60\nstep MUL\ncode 0x80\nslot 1\nslot 1\nentry 0\nentry 0").unwrap();
+    assert_eq!((&joined.code[..], joined.steps[0].slots.len(), joined.steps[0].entries.len()), (&[0x60, 0x80][..], 2, 2));
+}
+
+#[test]
+fn what_are_no_bytes() {
     let bytes = Trace::from_text(P1).unwrap().to_bytes();
     for length in 0..bytes.len() {
         assert!(Trace::from_bytes(&bytes[..length]).is_err());
@@ -102,7 +163,18 @@ fn what_is_no_trace() {
     let mut flagged = bytes.clone();
     flagged[8] = 2;
     assert!(Trace::from_bytes(&flagged).is_err());
-    assert!(Trace::from_text(&("step MUL\n".to_string() + &"slot 0\n".repeat(257))).is_err());
+    let code = |length| Trace { code: vec![0; length], ..Trace::default() };
+    let slots = |count| TraceStep { numbers: [0; STEP], slots: vec![[0; SLOT]; count], entries: vec![] };
+    let entries = |count| TraceStep { numbers: [0; STEP], slots: vec![], entries: vec![[0; ENTRY]; count] };
+    let steps = |step| Trace { steps: vec![step], ..Trace::default() };
+    for most in [code(CODE_LIMIT), steps(slots(COUNT_LIMIT)), steps(entries(COUNT_LIMIT))] {
+        assert_eq!(Trace::from_bytes(&most.to_bytes()), Ok(most));
+    }
+    let reason = |trace: Trace| Trace::from_bytes(&trace.to_bytes()).unwrap_err().reason;
+    assert_eq!(reason(code(24_577)), "the code has more than 24,576 bytes, or the packed flag is above 1");
+    for step in [slots(257), entries(257)] {
+        assert_eq!(reason(steps(step)), "a step has more than 256 slots or entries");
+    }
 }
 
 #[test]

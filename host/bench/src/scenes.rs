@@ -1,8 +1,9 @@
-//! Sound tables, stacks, memories and steps to time, and the same in the published source's terms.
+//! Sound tables, stacks, memories and steps to time.
 
-use crate::Head;
-use argcol::{Arg, ENTRY, Entry, Label, RECORD, SLOT, STEP, Slot, Step, TYPES, Word, raw};
-use published::{self as rust, Fact, Path, State, Tag};
+use argcol::{
+    Arg, ENTRY, Entry, Label, RECORD, SLOT, STEP, Slot, Step, TYPES, Word,
+    raw::{self, Head},
+};
 
 #[derive(Clone, Copy)]
 pub enum Shape {
@@ -32,12 +33,25 @@ pub struct Scene {
 /// Names and their confidence, one after the other.
 const NAMES: [(u32, u32); 8] = [(0, 0), (2, 5), (1, 5), (1008, 5), (3004, 5), (1256, 5), (2128, 20), (3032, 5)];
 
+/// The words from 0 in no order, the same ones in every run: a shuffle by a splitmix64 generator. A stride would not do, since a cache guesses it.
+fn shuffled(count: usize) -> Vec<usize> {
+    let mut words: Vec<usize> = (0..count).collect();
+    let mut state = 0u64;
+    for i in (1..count).rev() {
+        state = state.wrapping_add(0x9e37_79b9_7f4a_7c15);
+        let mixed = (state ^ state >> 30).wrapping_mul(0xbf58_476d_1ce4_e5b9);
+        let mixed = (mixed ^ mixed >> 27).wrapping_mul(0x94d0_49bb_1331_11eb);
+        words.swap(i, ((mixed ^ mixed >> 31) % (i as u64 + 1)) as usize);
+    }
+    words
+}
+
 impl Scene {
     pub fn new(shape: Shape, used: usize, records: usize) -> Self {
+        let words = shuffled(used - 1);
         let place = |n: usize| match shape {
             Shape::Wide => (1, n - 2),
-            // 7,919 is prime and no table is a multiple of it
-            Shape::Scattered => (1, (n - 2) * 7_919 % used.max(2)),
+            Shape::Scattered => (1, words[n - 2]),
             Shape::Deep => (n - 1, 0),
             Shape::Bushy => ((n - 2) / 128 + 1, (n - 2) % 128),
         };
@@ -110,53 +124,32 @@ impl Scene {
     /// The codes of the list that a closing grants.
     pub fn list(&self) -> Vec<u16> {
         let (mut s, mut types) = (self.clone(), vec![0; TYPES]);
-        let said = raw::closing(&mut s.head, &mut s.table, &[], 0, 0, &[], &mut types);
+        let said = raw::closing(&mut s.head, &mut s.table, &[], 0, 0, &[0; 8], &mut types);
         assert_eq!((said.number, said.kind), (0, 3));
         // no entry of these has a type inside
         types.truncate(said.entries as usize);
         types
     }
-
-    fn paths(&self) -> Vec<Path> {
-        let mut paths: Vec<Path> = vec![Vec::new(), Vec::new()];
-        for record in self.table.chunks(RECORD).take(self.head.used as usize).skip(1) {
-            let path = [&paths[record[1] as usize][..], &[record[0]]].concat();
-            paths.push(path);
-        }
-        paths
-    }
-
-    pub fn state(&self) -> State {
-        let paths = self.paths();
-        let records = || self.table.chunks(RECORD).zip(&paths[1..]);
-        let fact =
-            |(f, path): (&[u32], &Path)| Fact { path: path.clone(), kind: f[7], count: f[8], name: f[9], confidence: f[10], blocked: f[6] == 1 };
-        let mut facts: Vec<Fact> = records().map(fact).collect();
-        // the published source's order, whatever the numbers
-        facts.sort_by(|a, b| a.path.cmp(&b.path));
-        let not_bool = records().filter(|(f, _)| f[5] == 1).map(|(_, path)| path.clone());
-        State { facts, not_bool: not_bool.collect(), active: self.head.active == 1 }
-    }
-
-    /// Stack, memory and step in the published source's terms.
-    pub fn published(&self, step: &[u32; STEP]) -> (Vec<rust::Slot>, Vec<rust::Entry>, rust::Step) {
-        let paths = self.paths();
-        let stack: Vec<Slot> = self.stack.as_chunks().0.iter().map(|numbers| numbers.try_into().unwrap()).collect();
-        let memory: Vec<Entry> = self.memory.as_chunks().0.iter().map(|numbers| numbers.try_into().unwrap()).collect();
-        let step = Step::try_from(step).unwrap();
-        let entry = |entry: &Entry| rust::Entry { offset: entry.offset, bytes: vec![0; 32], tag: tag(&entry.label, &paths) };
-        let slot = |slot: &Slot| rust::Slot { word: slot.word.into(), tag: tag(&slot.label, &paths) };
-        let handed = rust::Step { op: step.op, pc: step.pc as usize, args: step.operands.each_ref().map(slot), load: None };
-        (stack.iter().map(slot).collect(), memory.iter().map(entry).collect(), handed)
-    }
 }
 
-fn tag(label: &Label, paths: &[Path]) -> Tag {
-    let arg = |arg: &Arg| rust::Arg { offset: arg.offset, path: paths[arg.path as usize].clone(), added: arg.added, mask: arg.mask.map(Into::into) };
-    match label {
-        Label::None => Tag::None,
-        Label::CallData => Tag::CallData,
-        Label::Arg(a) => Tag::Arg(arg(a)),
-        Label::ZeroTest(a) => Tag::ZeroTest(arg(a)),
+#[cfg(test)]
+mod tests {
+    use super::*;
+    use std::collections::HashMap;
+
+    /// Every word has one record, and the chain goes from one to the next by no stride, that of 1 included.
+    #[test]
+    fn a_scattered_chain_jumps_about() {
+        for used in [16, 62, 64, 65, 1_024, 1_478, 1_480, 2_048, 4_065, 4_096, 8_192, 16_382, 16_384] {
+            let scene = Scene::new(Shape::Scattered, used, used);
+            let record = |n: u32| &scene.table[RECORD * (n as usize - 1)..];
+            let chain: Vec<u32> = std::iter::successors(Some(record(1)[2]), |n| Some(record(*n)[3]).filter(|next| *next != 0)).collect();
+            let keys: Vec<u32> = chain.iter().map(|n| record(*n)[0]).collect();
+            assert_eq!(keys, (0..used as u32 - 1).map(|word| 32 * word).collect::<Vec<_>>());
+            let mut strides = HashMap::new();
+            chain.windows(2).for_each(|pair| *strides.entry(pair[1].wrapping_sub(pair[0])).or_insert(0) += 1);
+            // as often as chance has it; a constant stride would be met hundreds of times
+            assert!(strides.values().all(|count| *count <= 8) && strides.get(&1).is_none_or(|count| *count <= 2), "{used}");
+        }
     }
 }

@@ -1,4 +1,4 @@
-//! Lists of calls: from fresh tables, from any sound table, at the limits, and damaged.
+//! Lists of calls: from fresh tables, from any sound table, from large ones in no order, at the limits, and damaged.
 
 use crate::{
     compare::{self, Scene, Tally},
@@ -213,6 +213,35 @@ pub fn damaged(r: &mut Random, tally: &mut Tally) {
     let mut other = scene.clone();
     compare::step(tally, &mut scene, &step, form);
     compare::close(tally, &mut other, &closing, &mut types);
+}
+
+/// Two long chains through each other, their records learnt in no order, in full and nearly full tables: steps about children that are there and about keys beside them; and
+/// closings that fill in the words between them.
+pub fn scattered(r: &mut Random, tally: &mut Tally) {
+    let (code, places) = generate::code(r);
+    let used = if r.one_in(12) { 300 + r.below(1180) } else { 33 + r.below(260) };
+    let free = if r.one_in(2) { r.below(3) } else { r.below(3 * used) };
+    let (head, table) = generate::table(r, used, free, 2);
+    let mut scene = Scene { head, table, code, stack: Vec::new(), memory: Vec::new() };
+    if r.one_in(3) {
+        // no kinds, which would keep the words from being filled in
+        scene.table.chunks_mut(RECORD).for_each(|f| f[7..9].fill(0));
+        let length = 4 + 32 * r.below(3 * used) as u32;
+        scene.code = [&[0x63], &length.to_be_bytes()[..], &[0x36, 0x10]].concat();
+        compare::close(tally, &mut scene, &Closing { start: 0, packed: None }, &mut types(r));
+        return;
+    }
+    let (slots, entries) = (1 + r.below(4), r.below(4));
+    scene.stack = generate::stack(r, &scene, slots);
+    scene.memory = generate::memory(r, &scene, entries);
+    for _ in 0..1 + r.below(12) {
+        let mut step = generate::step(r, &scene, &places);
+        generate::about_records(r, &scene, &mut step);
+        let form = r.below(6) as u32;
+        compare::step(tally, &mut scene, &step, form);
+    }
+    let closing = generate::closing(r, &scene.code, &places);
+    compare::close(tally, &mut scene, &closing, &mut types(r));
 }
 
 /// Everything at its limit: wide tables of 16,384 records, deep ones of 3,000 levels, full or with room, 1,024 slots and entries, 65,536 bytes of code; and

@@ -470,3 +470,15 @@ pub fn step(r: &mut Random, scene: &Scene, places: &[u32]) -> Vec<u32> {
     }
     step
 }
+
+/// Turns a step's operands to records that are there, or to keys right beside theirs.
+pub fn about_records(r: &mut Random, scene: &Scene, step: &mut [u32]) {
+    let used = scene.head.used as usize;
+    for label in [10, 31] {
+        if step[label] >= 2 && used > 1 {
+            let record = &scene.table[(1 + r.below(used - 1)) * RECORD..];
+            let beside = r.pick(&[0, 0, 0, 1, u32::MAX, 32, 64]);
+            (step[label + 1], step[label + 2]) = (record[0].wrapping_add(beside), record[1]);
+        }
+    }
+}

@@ -1,13 +1,14 @@
 //! Compares the proved core, a plain reading of document 01 and the published source, call by call.
 //!
-//!     harness run SEED STEPS      generated lists of calls until so many steps
-//!     harness counters SEED STEPS the same, then the counts of the source's branches (a build with ARGCOL_COUNTERS=1)
-//!     harness mutant SEED STEPS   the same, in silence and until the first difference, which a mutated source has to give
-//!     harness damaged SEED STEPS  only calls with one or two numbers or lengths wrong
-//!     harness large SEED STEPS    tables, stacks, memories and codes at their limits, full and one too large
-//!     harness machine SEED RUNS   whole runs of the published machine on generated contracts
-//!     harness sample SEED RUNS    such runs as traces for the program `replay`, with the published lists: host/sample.stdin and host/sample.stdout
-//!     harness speed SEED RUNS     time for each step of such runs: the source's `analyze`, and the core on tables of 64 and 1,480 records
+//!     harness run SEED STEPS         generated lists of calls until so many steps
+//!     harness counters SEED STEPS    the same, then the counts of the source's branches (a build with ARGCOL_COUNTERS=1)
+//!     harness mutant SEED STEPS      the same, in silence and until the first difference, which a mutated source has to give
+//!     harness damaged SEED STEPS     only calls with one or two numbers or lengths wrong
+//!     harness scattered SEED STEPS   large tables whose chains jump about, full and nearly so
+//!     harness large SEED STEPS       tables, stacks, memories and codes at their limits, full and one too large
+//!     harness machine SEED RUNS      whole runs of the published machine on generated contracts
+//!     harness sample SEED RUNS       such runs as traces for the program `replay`, with the published lists: host/sample.stdin and host/sample.stdout
+//!     harness speed SEED RUNS        time for each step of such runs: the source's `analyze`, and the core on tables of 64 and 1,480 records
 
 mod calls;
 mod compare;
@@ -35,6 +36,7 @@ fn main() -> ExitCode {
     let run = move || match command.as_str() {
         "run" => run(seed, steps, calls::any),
         "damaged" => run(seed, steps, calls::damaged),
+        "scattered" => run(seed, steps, calls::scattered),
         "large" => run(seed, steps, calls::at_limits),
         "machine" => machines(seed, steps),
         "sample" => sample(seed, steps),
@@ -45,7 +47,7 @@ fn main() -> ExitCode {
             counters() && good
         }
         _ => {
-            println!("harness run|counters|mutant|damaged|large|machine|sample|speed SEED COUNT");
+            println!("harness run|counters|mutant|damaged|scattered|large|machine|sample|speed SEED COUNT");
             false
         }
     };

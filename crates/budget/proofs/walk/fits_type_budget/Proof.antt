@@ -38,4 +38,4 @@ answer-requires c κs = let h = c .before .before .before .before .left-of-child
 pub fits-type-budget-spec : {M : Type 1} → statement M
 fits-type-budget-spec =
     tie.close
-    (tie.spec (λ c. search needs) left-of-children-requires returns last-word-requires (λ c κs. search needs) answer-requires returns-2)
+    (tie.spec left-of-children-requires returns last-word-requires (λ c κs. search needs) answer-requires returns-2)

@@ -3,7 +3,7 @@ use Prim.Native.Nat.{suc, _≤_}
 use mathlib.Core.Path.{_≡_}
 use denote.Ref.{now}
 use native.Mathlib.Omega.{arith}
-use Rattle.limits.specs.Limits.{codesMax}
+use Rattle.limits.specs.Limits.{typesRoom}
 use Rattle.facts.specs.State.{nodes}
 use Rattle.facts.proofs.States.{sound-formed}
 use Rattle.paths.proofs.Frame.{sound-shaped}
@@ -26,7 +26,7 @@ last c =
     k .fits-type-budget .ensures .1
     (not-over _ _ (now (st c .args .types)) (e .before .is-childless .ensures) (e .if1 .left) _ (k .fits-type-budget .ensures .0) _ (a .budget .given .1))
 
-most : (c : tie.After-struct-known) → let s = st c in suc (lastWord (nodes (now (s .args .table)) (s .args .used)) 1) ≤ codesMax
+most : (c : tie.After-struct-known) → let s = st c in suc (lastWord (nodes (now (s .args .table)) (s .args .used)) 1) ≤ typesRoom
 most c =
     let a = c .before .before in
     let k = a .before .before in

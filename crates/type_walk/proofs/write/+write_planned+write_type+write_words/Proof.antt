@@ -6,7 +6,7 @@ use mathlib.Core.Logic.{⊎-elim}
 use native.Mathlib.Omega.{arith}
 use denote.Ref.{now}
 use borrow.Author.Needs.{needs}
-use Rattle.limits.specs.Limits.{codesMax}
+use Rattle.limits.specs.Limits.{typesRoom}
 use Rattle.facts.specs.Links.{Kid}
 use Rattle.paths.proofs.Frame.{sound-shaped}
 use Rattle.paths.proofs.Tail.{has-field}
@@ -100,7 +100,7 @@ Leaf t = write-type-lts.Then1 (
   write-planned.Post,
 ) (write-type-at t) write-type.Post
 
-leaf-room : (t : ℕ) (c : Leaf t) → c .before .before .before .before .args .at + 1 ≤ codesMax
+leaf-room : (t : ℕ) (c : Leaf t) → c .before .before .before .before .args .at + 1 ≤ typesRoom
 leaf-room t c =
     let x = c .before in let s = x .before .before .before in
     leaf-fits _ _ _ _ (s .pre .1 .0) (s .pre .1 .1 .0 .0) (s .pre .1 .1 .0 .1) (now (s .args .types)) _ (s .pre .1 .1 .1 .0) (s .pre .1 .1 .1 .1)
@@ -203,7 +203,7 @@ turn-kid : (t : ℕ) (e : Turn t) → let a = start t (e .before) .args in Kid (
 turn-kid t e = head-writing t (e .before) .reached .first .kid (turn-some t e)
 
 -- the number of the word is small
-turn-small : (t : ℕ) (e : Turn t) → start t (e .before) .args .start + e .before .loop2 .i ≤ codesMax
+turn-small : (t : ℕ) (e : Turn t) → start t (e .before) .args .start + e .before .loop2 .i ≤ typesRoom
 turn-small t e =
     let s = start t (e .before) in
     let h = words-small _ _ _ _ _ _ _ _ _ _ _ (head-writing t (e .before)) (s .pre .1 .1 .0 .2) (s .pre .1 .1 .1 .0) in let l = turn-less t e in omega arith
@@ -244,7 +244,7 @@ Looked t = write-words-lts.After-find-word (
 looked-less : (t : ℕ) (f : Looked t) → let j = f .before .before .before in j .if2 .i < start t (j .before .before .before) .args .words
 looked-less t f = let d = f .before .before in not-all _ _ (behind-writing t (d .before) .0 .most) (d .if4 .left)
 
-none-room : (t : ℕ) (f : Looked t) → f .find-word .result .child ≡ 0 → f .before .before .before .if2 .to + 1 ≤ codesMax
+none-room : (t : ℕ) (f : Looked t) → f .find-word .result .child ≡ 0 → f .before .before .before .if2 .to + 1 ≤ typesRoom
 none-room t f z =
     let j = f .before .before .before in let s = start t (j .before .before .before) in
     none-fits _ _ _ _ _ _ (s .pre .1 .0) (s .pre .1 .1 .0 .0) (s .pre .1 .1 .0 .1) _ _ _ _ _ _ (behind-writing t j .0) (looked-less t f) _ (f .find-word .ensures .0 .0) z
