@@ -139,56 +139,76 @@ class Args:
         return True
 
 
+SKIPPED = ' skipped'
+
+
 def perform(args, n, entry):
     """does the operation, if it may; its answer"""
     op, a, b, c, d = entry[:5]
-    used, skipped = len(args.numbers), ' skipped'
-    if op <= CLEAR_RANGE_HINT:
-        if not 1 <= a <= used:
-            return skipped
-        path, key = args.path(a), b
-        full = path + (key,)
-        missing = int(full not in args.numbers)
-        if op in (FIND_CHILD, MISSING, HAS_RANGE_HINT):
-            return {FIND_CHILD: f' {args.numbers.get(full, 0)}', MISSING: f' {missing}',
-                    HAS_RANGE_HINT: ' yes' if args.has_range_hint(path, key) else ' no'}[op]
-        if op == CLEAR_RANGE_HINT:
-            if c > 1:
-                return skipped
-            args.clear_range_hint(path, key, c == 1)
-            return ''
-        if used + missing > n or (op == INSERT_CHILD and not missing):
-            return skipped
-        if op in (INSERT_CHILD, ENSURE_CHILD):
-            args.insert(full)
-        elif op == GET_OR_CREATE:
-            args.get_or_create(full)
-        elif op == SET_TNAME:
-            args.set_tname(path, key, c, d)
-        elif op == MARK_NOT_BOOL:
-            args.mark_not_bool(path, key)
-        else:
-            args.insert_not_bool(full)
-        return f' {args.numbers[full]}' if op <= GET_OR_CREATE else ''
-    if op <= ARRAYS_IN_PATH:
-        if not 1 <= a <= used:
-            return skipped
-        path = args.path(a)
-        if op == ARRAYS_IN_PATH:
-            return f' {sum(args.array_in_path(path))}'
-        if op == MAKE_SEEN:
-            args.get_or_create(path)
-        else:
-            args.set_info(path, DYNAMIC if op == SET_DYNAMIC else ARRAY, b)
+    if op > ARRAYS_IN_PATH:
+        return fill(args, n, op, a)
+    if not 1 <= a <= len(args.numbers):
+        return SKIPPED
+    path = args.path(a)
+    if op > CLEAR_RANGE_HINT:
+        return change_record(args, op, path, b)
+    if op in (FIND_CHILD, MISSING, HAS_RANGE_HINT):
+        return ask_child(args, op, path, b)
+    if op == CLEAR_RANGE_HINT:
+        if c > 1:
+            return SKIPPED
+        args.clear_range_hint(path, b, c == 1)
         return ''
-    if a > MAX_ARGUMENT_WORDS:
-        return skipped
-    absent = sum(p not in args.numbers for p in args.fill_paths(a))
+    return make_child(args, n, op, path, b, (c, d))
+
+
+def ask_child(args, op, path, key):
+    full = path + (key,)
+    if op == FIND_CHILD:
+        return f' {args.numbers.get(full, 0)}'
+    if op == MISSING:
+        return f' {int(full not in args.numbers)}'
+    return ' yes' if args.has_range_hint(path, key) else ' no'
+
+
+def make_child(args, n, op, path, key, name):
+    """the operations that make a record where there is none; `name` is a name with its confidence"""
+    full = path + (key,)
+    missing = int(full not in args.numbers)
+    if len(args.numbers) + missing > n or (op == INSERT_CHILD and not missing):
+        return SKIPPED
+    if op in (INSERT_CHILD, ENSURE_CHILD):
+        args.insert(full)
+    elif op == GET_OR_CREATE:
+        args.get_or_create(full)
+    elif op == SET_TNAME:
+        args.set_tname(path, key, *name)
+    elif op == MARK_NOT_BOOL:
+        args.mark_not_bool(path, key)
+    else:
+        args.insert_not_bool(full)
+    return f' {args.numbers[full]}' if op <= GET_OR_CREATE else ''
+
+
+def change_record(args, op, path, count):
+    if op == ARRAYS_IN_PATH:
+        return f' {sum(args.array_in_path(path))}'
+    if op == MAKE_SEEN:
+        args.get_or_create(path)
+    else:
+        args.set_info(path, DYNAMIC if op == SET_DYNAMIC else ARRAY, count)
+    return ''
+
+
+def fill(args, n, op, words):
+    if words > MAX_ARGUMENT_WORDS:
+        return SKIPPED
+    absent = sum(p not in args.numbers for p in args.fill_paths(words))
     if op == FILL_MISSING:
         return f' {absent}'
-    if used + absent > n:
-        return skipped
-    for p in args.fill_paths(a):
+    if len(args.numbers) + absent > n:
+        return SKIPPED
+    for p in args.fill_paths(words):
         args.get_or_create(p)
     return ''
 

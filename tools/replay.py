@@ -24,7 +24,8 @@ import sys
 import closing_model as model
 from leaf_vectors import CALLDATASIZE, DUP1, JUMPDEST, LT as LT_OP, M, AND as AND_OP, push
 from step_model import ADD, AND, BYTE, CALLDATACOPY, CALLDATALOAD, EQ, ISZERO, LT, MUL, SDIV, SHL, SHR, SIGNEXTEND, numbers_of_word
-from step_vectors import CALL_DATA, CODES, GUARD, NONE, OPS, WORDS, arg, entry, guard, random_label, random_slot, slot, step_numbers, zero_test
+from step_random import CODES, OPS, WORDS, random_label, random_slot
+from step_trace import CALL_DATA, NONE, arg, entry, guard, slot, step_numbers, zero_test
 
 TOP = 2**32 - 1
 TRACES = []

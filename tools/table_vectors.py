@@ -1,8 +1,9 @@
 #!/usr/bin/env python3
 """Makes the vectors of crates/table_vectors: table_vectors.py stdin > crates/table_vectors/stdin, and stdout the same way.
 
-Tables are built by hand below and damaged, one number at a time. The answers come from the model `sound`, which follows document 01's question 2 sentence
-by sentence on Python's lists; it is not made from the definitions of specs/.
+Most tables are built by hand below and damaged, one number at a time; those of `random_tables` are random, half of them with one or two numbers changed. The
+answers come from the model `sound`, which follows document 01's question 2 sentence by sentence on Python's lists; it is not made from the definitions of
+specs/.
 """
 import random
 import struct

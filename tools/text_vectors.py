@@ -183,12 +183,17 @@ def packed_form(v):
     return (head + b''.join(struct.pack('>HH', n, c) for n, c in runs)).ljust(192, b'\0')
 
 
-for make in (signatures, widths, shapes, limits, random_lists):
-    make()
-if sys.argv[1:] == ['stdin']:
-    sys.stdout.buffer.write(b''.join(map(packed_form, VECTORS)))
-elif sys.argv[1:] == ['stdout']:
-    for label, codes, runs, room, block, times in VECTORS:
-        print(label, answer(codes, room))
-else:
-    sys.exit(__doc__)
+def main():
+    for make in (signatures, widths, shapes, limits, random_lists):
+        make()
+    if sys.argv[1:] == ['stdin']:
+        sys.stdout.buffer.write(b''.join(map(packed_form, VECTORS)))
+    elif sys.argv[1:] == ['stdout']:
+        for label, codes, runs, room, block, times in VECTORS:
+            print(label, answer(codes, room))
+    else:
+        sys.exit(__doc__)
+
+
+if __name__ == '__main__':
+    main()
