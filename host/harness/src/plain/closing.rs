@@ -1,11 +1,6 @@
 //! The closing: its questions, the words of the head that are filled in, the budget and the list.
 
-use super::{
-    code::least_size,
-    facts::Facts,
-    numbers::*,
-    soundness::{is_sound, is_table},
-};
+use super::{code::least_size, facts::Facts, numbers::*, questions::first_three};
 use crate::core::*;
 
 const MOST_WORDS: u32 = 4096;
@@ -32,14 +27,9 @@ pub fn close(head: &mut Head, table: &mut [u32], code: &[u8], closing: &Closing,
 
 /// The questions that come before the words are filled in: the number of the first that is answered no, 0 if there is none.
 fn questions(head: Head, table: &[u32], code: &[u8], types: &[u16]) -> u32 {
-    if !is_table(table) {
-        return 1;
-    }
-    if !is_sound(table, head.used) || head.active > 1 {
-        return 2;
-    }
-    if code.len() > 65_536 {
-        return 3;
+    let refused = first_three(head, table, code);
+    if refused != 0 {
+        return refused;
     }
     if types.len() < TYPES {
         return 9;

@@ -10,8 +10,8 @@ use crate::core::*;
 /// The opcodes whose arms write to the top slot.
 const NEEDS_SLOT: [u8; 9] = [0x35, 0x01, 0x02, 0x1b, 0x10, 0x11, 0x16, 0x15, 0x51];
 
-/// The number of the first question that is answered no, 0 if there is none.
-pub fn questions(head: Head, table: &[u32], code: &[u8], stack: &[u32], memory: &[u32], step: &[u32]) -> u32 {
+/// Questions 1 to 3, which a step and a closing ask alike.
+pub fn first_three(head: Head, table: &[u32], code: &[u8]) -> u32 {
     if !is_table(table) {
         return 1;
     }
@@ -20,6 +20,15 @@ pub fn questions(head: Head, table: &[u32], code: &[u8], stack: &[u32], memory: 
     }
     if code.len() > 65_536 {
         return 3;
+    }
+    0
+}
+
+/// The number of the first question that is answered no, 0 if there is none.
+pub fn questions(head: Head, table: &[u32], code: &[u8], stack: &[u32], memory: &[u32], step: &[u32]) -> u32 {
+    let refused = first_three(head, table, code);
+    if refused != 0 {
+        return refused;
     }
     let whole = |part: &[u32], width: usize| part.len() % width == 0 && part.len() / width <= 1024;
     if !whole(stack, SLOT) || !whole(memory, ENTRY) || step.len() != STEP {
