@@ -9,13 +9,10 @@ use lib.Dec.{eqb, leb}
 use lib.ListN.{length}
 use borrow.Author.Tests.{eqb-true, eqb-false, leb-true, le-leb}
 use Rattle.limits.specs.Limits.{budgetMax, wordBytes, recordsMax}
+use Rattle.limits.specs.Questions.{taken}
 use Rattle.types.specs.Tree.{AbiTypes, nil, cons, count, levels, mostLevels}
 use Rattle.facts.specs.Formed.{Formed}
 use Rattle.facts.specs.State.{Node, nodes}
-use Rattle.facts.specs.declared.Records.{Records}
-use Rattle.facts.specs.declared.Records.the-variants.{Count, Unfit}
-use Rattle.facts.specs.Count.{recordCount}
-use Rattle.facts.proofs.Counts.{count-counted}
 use Rattle.facts.proofs.States.{sound-formed}
 use Rattle.fresh.specs.Call as fresh-call
 use Rattle.list.specs.Seen.{childrenIn, isEmpty, lastWord}
@@ -34,7 +31,7 @@ use Rattle.closing.specs.Call as closing-call
 use Rattle.calls.specs.Facts.{Call, closing, start, known}
 use Rattle.calls.specs.Run.{Held, held, fresh, Does, Run, heldOf}
 use Rattle.calls.specs.Terms.{SomeArgument, NoneDeeper, SumFits, WellListed}
-use Rattle.calls.specs.Claims.{FirstOf, JudgedBy, ClosingIn, factsOf, GrantedList}
+use Rattle.calls.specs.Claims.{FirstOf, JudgedBy, ClosingIn, ClosingJudged, factsOf, GrantedList}
 use Rattle.calls.proofs.Following.{start-good, closing-judged, run-held, run-there, filled-formed}
 use Rattle.calls.proofs.TermLaws.{argument-child, child-argument, shallow-deeper, deeper-shallow}
 
@@ -112,10 +109,9 @@ split t (b ∷ before) c behind t′ R =
     record { handed = S .handed; ran = (R .0, R .1, S .ran); left = S .left; does = S .does; rest = S .rest }
 
 -- document 01: "A taken fresh call comes first and fixes the record count.": it leaves the head and the table from which the lists of calls start
-pub fresh-first : (N : ℕ) (l l′ : fresh-call.Lent) → fresh-call.Outcome l (Count N) l′ → FirstOf N l′
-fresh-first N l l′ O =
-    let C = count-counted (length (l .table)) N (sym (O .answers)) in
-    let q = O .leaves ∙ ap (λ (r : Records). fresh-call.freshened r l) (sym (O .answers)) in
+pub fresh-first : (N : ℕ) (l l′ : fresh-call.Lent) → fresh-call.Outcome l taken N l′ → FirstOf N l′
+fresh-first N l l′ (fresh-call.unfit f e c q) = absurd (omega arith)
+fresh-first N l l′ (fresh-call.opened C e q) =
     record { some = C .some; most = C .most; leaves = ap (λ (m : fresh-call.Lent). held (m .used) (m .active) (m .table)) q }
 
 module _ (N : ℕ) (N1 : 1 ≤ N) (NM : N ≤ recordsMax) where
@@ -128,29 +124,23 @@ module _ (N : ℕ) (N1 : 1 ≤ N) (NM : N ≤ recordsMax) where
   pub calls-run : (cs : List Call) → Run (fresh N) cs (heldOf N (known N cs))
   calls-run cs = run-there N N1 NM start (start-good N N1 NM) cs
 
-  -- "every closing in it that is not refused, judged by the facts that document 01 works out from the calls alone, its own fill included, grants a list exactly when .."
-  pub closings-judged : (before : List Call) (h : Handed) (types : List ℕ) (behind : List Call) (t : Held)
-      → Run (fresh N) (before ++ closing h types ∷ behind) t → ClosingIn N before h types
-  closings-judged before h types behind t R =
+  -- "every closing in it": each closing in a list that ran, whatever stands before and behind it
+  pub closings-in : (before : List Call) (h : Handed) (types : List ℕ) (behind : List Call) (t : Held) → Run (fresh N) (before ++ closing h types ∷ behind) t
+      → (answer : Verdict) × (left : closing-call.Lent) × ClosingIn N before h types answer left × Run (held (left .used) (left .active) (left .table)) behind t
+  closings-in before h types behind t R =
       let S = split (fresh N) before (closing h types) behind t R in
       let D = S .does in
-      record {
-        handed = S .handed;
-        ran = S .ran;
-        answer = D .0;
-        left = D .1;
-        outcome = D .2;
-        judged = λ z. judged (S .handed) (S .ran) (D .0) (D .1) (D .2) z;
-      }
-    where
-      judged : (m : Held) → Run (fresh N) before m → (v : Verdict) (l : closing-call.Lent)
-          → closing-call.Outcome (closing-call.lend (m .used) (m .active) (m .table) types) h v l → numberOf v ≡ 0 → JudgedBy (filled (known N before .facts) h) v
-      judged m Q v l O z =
-          let H = run-held N N1 NM start (start-good N N1 NM) before m Q in
-          let P = subst (λ (x : Held). closing-call.Outcome (closing-call.lend (x .used) (x .active) (x .table) types) h v l) (H .0) O in
-          let C = closing-judged N N1 NM (known N before) (H .1) h types v l P in
-          let A = not-refused N (known N before .facts) h types v (C .0) z in
-          judged-so (filled (known N before .facts) h) v (filled-formed (known N before .facts) h (H .1 .formed)) (A .1)
+      (D .0, D .1, record { handed = S .handed; ran = S .ran; outcome = D .2 }, subst (λ (x : Held). Run x behind t) (D .3) (S .rest))
+
+  -- ".. that is not refused, judged by the facts that document 01 works out from the calls alone, its own fill included, grants a list exactly when .."; whatever its outcome is
+  pub closings-judged : (before : List Call) (h : Handed) (types : List ℕ) (answer : Verdict) (left : closing-call.Lent)
+      → ClosingIn N before h types answer left → ClosingJudged N before h answer
+  closings-judged before h types answer left I z =
+      let H = run-held N N1 NM start (start-good N N1 NM) before (I .handed) (I .ran) in
+      let P = subst (λ (x : Held). closing-call.Outcome (closing-call.lend (x .used) (x .active) (x .table) types) h answer left) (H .0) (I .outcome) in
+      let C = closing-judged N N1 NM (known N before) (H .1) h types answer left P in
+      let A = not-refused N (known N before .facts) h types answer (C .0) z in
+      judged-so (filled (known N before .facts) h) answer (filled-formed (known N before .facts) h (H .1 .formed)) (A .1)
 
 -- an entry's levels are among the list's
 entry-most : (ts : AbiTypes) (k : ℕ) → k < count ts → levels (entryOf k ts) ≤ mostLevels ts

@@ -6,6 +6,7 @@ use mathlib.Core.Logic.{_↔_}
 use mathlib.Core.List.{List, _++_}
 use lib.ListN.{length, drop}
 use Rattle.limits.specs.Limits.{budgetMax, wordBytes, recordsMax}
+use Rattle.limits.specs.Questions.{taken}
 use Rattle.types.specs.Tree.{count}
 use Rattle.types.specs.Codes.{allCodes}
 use Rattle.facts.specs.State.{Node, nodes}
@@ -32,15 +33,15 @@ pub record JudgedBy (s : List Node) (v : Verdict) : Type 0 where
   pub none-known : (v ≡ none) ↔ (SomeArgument s → ⊥)
   pub over-known : (v ≡ over) ↔ (SomeArgument s × (NoneDeeper s × SumFits s → ⊥))
 
--- a closing in a list of calls, after those before it: what it was handed, its answer and what it left; "every closing in it that is not refused, judged by the facts
--- that document 01 works out from the calls alone, its own fill included"
-pub record ClosingIn (N : ℕ) (before : List Call) (h : Handed) (types : List ℕ) : Type 0 where
+-- a closing in a list of calls, after those before it: what these left it, and its answer and what it left itself, as its contract says
+pub record ClosingIn (N : ℕ) (before : List Call) (h : Handed) (types : List ℕ) (answer : Verdict) (left : closing-call.Lent) : Type 0 where
   pub handed : Held
   pub ran : Run (fresh N) before handed
-  pub answer : Verdict
-  pub left : closing-call.Lent
   pub outcome : closing-call.Outcome (closing-call.lend (handed .used) (handed .active) (handed .table) types) h answer left
-  pub judged : numberOf answer ≡ 0 → JudgedBy (filled (known N before .facts) h) answer
+
+-- "every closing in it that is not refused, judged by the facts that document 01 works out from the calls alone, its own fill included"
+abbrev pub ClosingJudged : ℕ → List Call → Handed → Verdict → Type 0
+ClosingJudged N before h answer = numberOf answer ≡ taken → JudgedBy (filled (known N before .facts) h) answer
 
 -- the facts of a closing that was lent l: those of its table, its own fill included
 abbrev pub factsOf : closing-call.Lent → Handed → List Node

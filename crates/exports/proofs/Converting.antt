@@ -6,7 +6,7 @@ use mathlib.Core.List.{List}
 use borrow.Author.Tests.{eq-eqb, ne-eqb}
 use Rattle.word.specs.Numbers.{limbsAt}
 use Rattle.facts.specs.declared.Records.{Records}
-use Rattle.facts.specs.Fresh.{numberOf}
+use Rattle.facts.specs.Fresh.{numberOf, countOf}
 use Rattle.fresh.specs.Call as fresh-call
 use Rattle.closing.specs.declared.Packed.{Packed}
 use Rattle.closing.specs.declared.Packed.the-variants.{Absent, Word}
@@ -19,8 +19,8 @@ use Rattle.exports.specs.declared.Answered.{Answered}
 use Rattle.exports.specs.Numbers.{answered, packedOf, FreshOutcome, ClosingOutcome}
 
 -- the fresh call, the step and the text call, from the numbers of their answers
-pub opened-so : (l : fresh-call.Lent) (a : Records) (n : ℕ) (l′ : fresh-call.Lent) → n ≡ numberOf a → fresh-call.Outcome l a l′ → FreshOutcome l n l′
-opened-so l a n l′ e O = record { answer = a; outcome = O; says = e }
+pub opened-so : (l : fresh-call.Lent) (a : Records) (n : ℕ) (l′ : fresh-call.Lent) → n ≡ numberOf a → fresh-call.Outcome l (numberOf a) (countOf a) l′ → FreshOutcome l n l′
+opened-so l a n l′ e O = record { count = countOf a; outcome = subst (λ (j : ℕ). fresh-call.Outcome l j (countOf a) l′) (sym e) O }
 
 pub stepped-so : (l : StepLent) (bytes x : List ℕ) (n k : ℕ) (l′ : StepLent) → n ≡ k → StepOutcome l bytes x k l′ → StepOutcome l bytes x n l′
 stepped-so l bytes x n k l′ e O = subst (λ (j : ℕ). StepOutcome l bytes x j l′) (sym e) O

@@ -2,7 +2,6 @@
 use Prim.Native.Nat.{ℕ}
 use mathlib.Core.Path.{_≡_, sym, ap, _∙_}
 use mathlib.Core.List.{List}
-use Rattle.facts.specs.Fresh.{numberOf}
 use Rattle.fresh.specs.Call as fresh-call
 use Rattle.fresh.proofs.Outcomes as fresh-outcomes
 use Rattle.closing.specs.Call.{Lent}
@@ -12,8 +11,8 @@ use Rattle.exports.specs.Numbers.{answered, packedOf, FreshOutcome, Clos
 
 pub one-fresh : (l : fresh-call.Lent) (n m : ℕ) (l₁ l₂ : fresh-call.Lent) → FreshOutcome l n l₁ → FreshOutcome l m l₂ → (n ≡ m) × (l₁ ≡ l₂)
 one-fresh l n m l₁ l₂ O P =
-    let same = fresh-outcomes.one-outcome l (O .answer) (P .answer) l₁ l₂ (O .outcome) (P .outcome) in
-    (O .says ∙ ap numberOf (same .0) ∙ sym (P .says), same .1)
+    let same = fresh-outcomes.one-outcome l n m (O .count) (P .count) l₁ l₂ (O .outcome) (P .outcome) in
+    (same .0, same .2)
 
 pub one-closing : (l : Lent) (code : List ℕ) (start flag : ℕ) (word : List ℕ) (a b : Answered) (l₁ l₂ : Lent) → ClosingOutcome l code start flag word a l₁
     → ClosingOutcome l code start flag word b l₂ → (a ≡ b) × (l₁ ≡ l₂)

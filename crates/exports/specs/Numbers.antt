@@ -8,8 +8,6 @@ use lib.Dec.{eqb}
 use lib.ListN.{length}
 use Rattle.limits.specs.Questions.{taken}
 use Rattle.word.specs.Numbers.{limbsAt}
-use Rattle.facts.specs.declared.Records.{Records}
-use Rattle.facts.specs.Fresh.{numberOf}
 use Rattle.fresh.specs.Call as fresh-call
 use Rattle.closing.specs.declared.Packed.{Packed}
 use Rattle.closing.specs.declared.Packed.the-variants.{Absent, Word}
@@ -17,11 +15,10 @@ use Rattle.closing.specs.Answer.{Verdict, refused, none, over, granted}
 use Rattle.closing.specs.Call.{Lent, Outcome}
 use Rattle.exports.specs.declared.Answered.{Answered}
 
--- what a fresh call answers and leaves. (`one-fresh`: there is one outcome only.)
+-- what a fresh call answers and leaves: its number, without the record count, which a host has. (`one-fresh`: there is one outcome only.)
 pub record FreshOutcome (l : fresh-call.Lent) (number : ℕ) (l′ : fresh-call.Lent) : Type 0 where
-  pub answer : Records
-  pub outcome : fresh-call.Outcome l answer l′
-  pub says : number ≡ numberOf answer
+  pub count : ℕ
+  pub outcome : fresh-call.Outcome l number count l′
 
 -- the kinds of a closing's answer, which are ours
 abbrev pub kindRefused : ℕ

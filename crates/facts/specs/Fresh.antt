@@ -15,3 +15,8 @@ freshTable Unfit t = t
 abbrev pub numberOf : Records → ℕ
 numberOf (Count N) = taken
 numberOf Unfit = countQuestion
+
+-- and its value: the record count of a table that is taken, 0 for a refusal
+abbrev pub countOf : Records → ℕ
+countOf (Count N) = N
+countOf Unfit = 0

@@ -2,12 +2,11 @@
 -- these are definitions.
 use Prim.Native.Nat.{ℕ}
 use mathlib.Core.Path.{_≡_}
-use mathlib.Core.List.{List}
+use mathlib.Core.List.{List, [], _∷_}
 use lib.ListN.{length}
-use Rattle.facts.specs.declared.Records.{Records}
-use Rattle.facts.specs.declared.Records.the-variants.{Count, Unfit}
-use Rattle.facts.specs.Count.{recordCount}
-use Rattle.facts.specs.Fresh.{freshTable}
+use Rattle.limits.specs.Questions.{taken, countQuestion}
+use Rattle.facts.specs.Count.{Counted}
+use Rattle.facts.specs.State.{encode, root}
 
 -- what goes along with the call: the head's two numbers and the table
 pub record Lent : Type 0 where
@@ -18,12 +17,9 @@ pub record Lent : Type 0 where
 abbrev pub lend : ℕ → ℕ → List ℕ → Lent
 lend used active table = record { used = used; active = active; table = table }
 
--- what is left, by question 1's answer: one record used, and active 1; refused, all is as it was
-abbrev pub freshened : Records → Lent → Lent
-freshened (Count N) l = lend 1 1 (freshTable (Count N) (l .table))
-freshened Unfit l = l
-
--- the answer, question 1's with the record count of a table that it takes (facts/specs/Fresh has its number), and what is left
-pub record Outcome (l : Lent) (answer : Records) (l′ : Lent) : Type 0 where
-  pub answers : answer ≡ recordCount (length (l .table))
-  pub leaves : l′ ≡ freshened (recordCount (length (l .table))) l
+-- the number of the answer and the record count, and what is left. (`one-outcome`: there is one outcome only.)
+pub data Outcome (l : Lent) (number count : ℕ) (l′ : Lent) : Type 0 where
+  -- 1. "Is the fact table a multiple of 11 with 1 to 16,384 records?"; refused, all is as it was
+  unfit : ((N : ℕ) → Counted (length (l .table)) N → ⊥) → number ≡ countQuestion → count ≡ 0 → l′ ≡ l → Outcome l number count l′
+  -- "leaves a lone root, the other records zero, active"
+  opened : Counted (length (l .table)) count → number ≡ taken → l′ ≡ lend 1 1 (encode count (root ∷ [])) → Outcome l number count l′

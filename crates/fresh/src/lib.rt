@@ -1,4 +1,5 @@
 // The fresh call: question 1, and then a lone root in the table and the head that goes along with it.
+ghost use Rattle.facts.specs.Fresh.{numberOf, countOf};
 ghost use Rattle.fresh.specs.Call.{Outcome, lend};
 use facts::Records;
 use head::Head;
@@ -11,7 +12,7 @@ pub struct Opened {
 
 // Leaves a lone root, the other records zero, and the decoder active; or refuses a table that question 1 doesn't take, and leaves all as it was.
 pub fn fresh(head: Head, table: &mut [u32]) -> Opened
-    ensures { λ r. ⌜ Outcome (lend (head .used) (head .active) (now (table .entry))) (r .answer) (lend (r .head .used) (r .head .active) (now (table .exit))) ⌝ }
+    ensures { λ r. ⌜ Outcome (lend (head .used) (head .active) (now (table .entry))) (numberOf (r .answer)) (countOf (r .answer)) (lend (r .head .used) (r .head .active) (now (table .exit))) ⌝ }
 {
     let records = facts::fresh(table);
     let Records::Count(n) = records else {

@@ -41,7 +41,8 @@ pub record Put (h : Held) (code bytes : List ℕ) (number : ℕ) (h′ : Held) :
 
 -- what is said of the bytes, and what is held behind them. (`one-outcome`: there is one outcome only.)
 pub data Outcome (h : Held) (code bytes : List ℕ) (v : Verdict) (h′ : Held) : Type 0 where
-  -- "Input that is short, over these sizes, .. prints `input refused`": nothing is changed
+  -- "Input that is short, over these sizes, .. prints `input refused`"; bytes behind the last entry are no part of a group and are said to be none either, which the printer never hands
+  -- over (`read-whole`). Nothing is changed
   not-group : (IsGroup bytes → ⊥) → v ≡ inputRefused → h′ ≡ h → Outcome h code bytes v h′
   -- "for each step its 59 numbers, slot count, entry count, slots, entries": the step call with these
   step : IsGroup bytes → (number : ℕ) → v ≡ answered number → Put h code bytes number h′ → Outcome h code bytes v h′

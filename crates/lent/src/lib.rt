@@ -1,5 +1,6 @@
 // The head lent: "the head (records used, decoder active) goes along with every call". Each function hands it to the by-value core, and stores the core's
 // back.
+ghost use Rattle.facts.specs.Fresh.{numberOf as freshNumber, countOf};
 ghost use Rattle.fresh.specs.Call.{Outcome as FreshOutcome, lend as lendFresh};
 ghost use Rattle.step.specs.Call.{Outcome, lend, numberOf};
 ghost use Rattle.closing.specs.Call.{Outcome as ClosingOutcome, lend as lendTypes};
@@ -12,7 +13,7 @@ use step::StepAnswer;
 
 // Leaves a lone root, the other records zero, and the decoder active; or refuses a table that question 1 doesn't take.
 pub fn fresh(head: &mut Head, table: &mut [u32]) -> Records
-    ensures { λ r. ⌜ FreshOutcome (lendFresh (now (head .entry) .used) (now (head .entry) .active) (now (table .entry))) r (lendFresh (now (head .exit) .used) (now (head .exit) .active) (now (table .exit))) ⌝ }
+    ensures { λ r. ⌜ FreshOutcome (lendFresh (now (head .entry) .used) (now (head .entry) .active) (now (table .entry))) (freshNumber r) (countOf r) (lendFresh (now (head .exit) .used) (now (head .exit) .active) (now (table .exit))) ⌝ }
 {
     let opened = fresh::fresh(*head, table);
     *head = opened.head;

@@ -79,6 +79,6 @@ entriesMax = 1024
 abbrev pub loadMax : ℕ
 loadMax = 130047
 
--- "no fact lies deeper than 64": the Rust's `MAX_ARGUMENT_DEPTH`
+-- demand 3: "no fact lies deeper than 64"; the Rust's `MAX_ARGUMENT_DEPTH`
 abbrev pub depthMax : ℕ
 depthMax = 64

@@ -65,5 +65,5 @@ pub const LOAD_MAX: u32 = 130047;
 // The Rust's `MAX_ARGUMENT_WORDS`: a longer head is not filled.
 pub const ARGUMENT_WORDS_MAX: u32 = 4096;
 
-// "no fact lies deeper than 64": the Rust's `MAX_ARGUMENT_DEPTH`.
+// Demand 3: "no fact lies deeper than 64"; the Rust's `MAX_ARGUMENT_DEPTH`.
 pub const DEPTH_MAX: u32 = 64;

@@ -39,7 +39,8 @@ fn put_closing(
 )
     requires { ⌜ (length (now types) ≤ codesMax) × (listRoom ≤ length (now out)) ⌝ }
 {
-    let n = close_into(head, table, code, start, packed, types, out);
+    let stored = close_into(head, table, code, start, packed, types, out);
+    let n = stored.length;
     put(&out[0..n]);
 }
 

@@ -39,12 +39,9 @@ abbrev pub Reported : Verdict → List ℕ → List ℕ → ℕ → List ℕ →
 Reported v cs out r out′ =
     (ts : AbiTypes) (rest : List ℕ) → allWellFormed ts ≡ true → cs ≡ allCodes ts ++ rest → HasEntries v ts → Stored (answerText v ts) out r out′
 
--- what a closing prints and leaves: its outcome, table and type slice with it, and the text of that outcome and of the list of the facts after the fill. (`one-outcome` of the
+-- what a closing prints and leaves: its outcome, head and lent slices with it, and the text of that outcome and of the list of the facts after the fill. (`one-outcome` of the
 -- closing: there is one outcome only.)
-pub record Printed (l : Lent) (h : Handed) (out : List ℕ) (r : ℕ) (out′ table′ types′ : List ℕ) : Type 0 where
+pub record Printed (l : Lent) (h : Handed) (out : List ℕ) (r : ℕ) (out′ : List ℕ) (l′ : Lent) : Type 0 where
   pub verdict : Verdict
-  pub after : Lent
-  pub outcome : Outcome l h verdict after
-  pub table : after .table ≡ table′
-  pub types : after .types ≡ types′
+  pub outcome : Outcome l h verdict l′
   pub stored : Stored (answerText verdict (listOf (filled (nodes (l .table) (l .used)) h))) out r out′

@@ -15,6 +15,12 @@ use spell::put_bytes;
 use trace::put_list;
 use trace::put_refused;
 
+// What a closing that is printed leaves beside the lent slices: the head, and how many bytes were stored.
+pub struct ClosedInto {
+    pub head: Head,
+    pub length: usize,
+}
+
 // Stores the lines of an answer at the start of the slice: "else `none`, `over` or the list". Answers how many bytes they have.
 fn put_answer(answer: Closing, types: &[u16], out: &mut [u8]) -> usize
     requires { ⌜ (length (now types) ≤ codesMax) × (listRoom ≤ length (now out)) ⌝ }
@@ -40,7 +46,7 @@ fn put_answer(answer: Closing, types: &[u16], out: &mut [u8]) -> usize
     }
 }
 
-// Closes, and stores what is printed of it at the start of the slice; answers how many bytes that are.
+// Closes, and stores what is printed of it at the start of the slice.
 pub fn close_into(
     head: Head,
     table: &mut [u32],
@@ -49,12 +55,14 @@ pub fn close_into(
     packed: Packed,
     types: &mut [u16],
     out: &mut [u8],
-) -> usize
+) -> ClosedInto
     requires { ⌜ (length (now types) ≤ codesMax) × (listRoom ≤ length (now out)) ⌝ }
-    ensures { λ r. ⌜ Printed (lend (head .used) (head .active) (now (table .entry)) (now (types .entry))) (record { code = now (code .entry); start = start; packed = packed }) (now (out .entry)) r (now (out .exit)) (now (table .exit)) (now (types .exit)) ⌝ }
-    ensures { λ r. ⌜ r ≤ length (now (out .exit)) ⌝ }
+    ensures { λ r. ⌜ Printed (lend (head .used) (head .active) (now (table .entry)) (now (types .entry))) (record { code = now (code .entry); start = start; packed = packed }) (now (out .entry)) (r .length) (now (out .exit)) (lend (r .head .used) (r .head .active) (now (table .exit)) (now (types .exit))) ⌝ }
+    ensures { λ r. ⌜ r .length ≤ length (now (out .exit)) ⌝ }
 {
     let closed = close(head, table, code, start, packed, types);
+    let next = closed.head;
     let answer = closed.answer;
-    put_answer(answer, types, out)
+    let length = put_answer(answer, types, out);
+    ClosedInto { head: next, length }
 }

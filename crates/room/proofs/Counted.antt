@@ -283,7 +283,7 @@ same-added s s′ A touched.Nothing = refl
 same-added s s′ A (touched.One p k) = same-missing s s′ A p k
 same-added s s′ A (touched.Two p k q l) = λ i. same-missing s s′ A p k i + cond (eqb p q && eqb k l) 0 (same-missing s s′ A q l i)
 
--- "Question 8 asks the exact count of the records that this step adds"
+-- question 8: "Are enough records free for those the step adds?": how many these are
 pub length-analyze : (m : Machine) (active : Bool) (bytes : List ℕ) (x : Step) → StepReaches (length (m .facts)) x
     → length (analyze m active bytes x .facts) ≡ length (m .facts) + addedBy (m .facts) (touchedBy active bytes x)
 unfolding analyze touchedBy rangeFacts

@@ -90,7 +90,7 @@ module _ (s : List Node) (F : Formed s) where
       (array-formed (second q) (second-formed q a))
       (together-formed q a))
 
-  -- "to_alloy_type then gives exactly one type for each node but the root": ABI types all
+  -- "`to_alloy_type` then gives exactly one type for each node but the root": ABI types all
   pub list-formed : allWellFormed (listOf s) ≡ true
   unfolding listOf
   list-formed =

@@ -52,7 +52,7 @@ module _ (n k : ℕ) (d : List ℕ) (small : n < 2 ^ 32) (fewest : Fewest 10 1 n
   pub digits-behind : (to r : ℕ) → r ≡ to + length (take k d) → r ≡ to + length (decimal n)
   digits-behind to r e = e ∙ ap (λ (l : List ℕ). to + length l) (fewest-decimal n k d small fewest spelt)
 
--- "args N left L head H"
+-- the first line of a list, as "args 1 left 8189 head 32"
 pub args-stored : (l m n o p : List ℕ) (i j k r a b c : ℕ) →
     m ≡ sets l 0 (argsWord ++ decimal a) → i ≡ 0 + length (argsWord ++ decimal a) →
     n ≡ sets m i (leftWord ++ decimal b) → j ≡ i + length (leftWord ++ decimal b) →

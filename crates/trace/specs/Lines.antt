@@ -86,12 +86,13 @@ Stored line out r out′ = (out′ ≡ sets out 0 line) × (r ≡ length line)
 abbrev pub StoredAt : List ℕ → List ℕ → ℕ → ℕ → List ℕ → Type 0
 StoredAt line out to r out′ = (out′ ≡ sets out to line) × (r ≡ to + length line)
 
--- what becomes of an entry's codes
+-- what becomes of an entry's codes; where they are those of no types, which no granted list has, no line is counted, and what stands in the slice is free
 pub data EntryStored (k : ℕ) (cs out : List ℕ) (to r : ℕ) (out′ : List ℕ) : Type 0 where
   written : (ts : AbiTypes) → Passes ts cs → StoredAt (entryLine k ts) out to r out′ → EntryStored k cs out to r out′
   no-types : ((ts : AbiTypes) → Passes ts cs → ⊥) → r ≡ to → EntryStored k cs out to r out′
 
--- what becomes of a list's codes: where they begin with those of as many well-formed types as there are entries, the lines of these
+-- what becomes of a list's codes: where they begin with those of as many well-formed types as there are entries, the lines of these; else the answer is free, but within the slice
+-- (`outcome-text` of the report: a granted list's codes are such)
 abbrev pub EntriesStored : ℕ → List ℕ → List ℕ → ℕ → ℕ → List ℕ → Type 0
 EntriesStored entries cs out from r out′ =
     (ts : AbiTypes) (rest : List ℕ) → allWellFormed ts ≡ true → count ts ≡ entries → cs ≡ allCodes ts ++ rest → StoredAt (entryLines 0 ts) out from r out′

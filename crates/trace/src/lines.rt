@@ -32,7 +32,7 @@ fn put_numbered(out: &mut [u8], to: usize, words: &[u8], n: u32) -> usize
     put_decimal(out, at, n)
 }
 
-// "args N left L head H".
+// The first line of a list, as "args 1 left 8189 head 32".
 pub fn put_args(out: &mut [u8], entries: u32, left: u32, head: u32) -> usize
     requires { ⌜ lineRoom ≤ length (now out) ⌝ }
     ensures { λ r. ⌜ Stored (argsLine entries left head) (now (out .entry)) r (now (out .exit)) ⌝ }
@@ -44,7 +44,7 @@ pub fn put_args(out: &mut [u8], entries: u32, left: u32, head: u32) -> usize
     put_bytes(out, third, b"\n")
 }
 
-// "refused N at S".
+// The line of a refusal, "refused N at S".
 pub fn put_refused(out: &mut [u8], number: u32, step: u32) -> usize
     requires { ⌜ lineRoom ≤ length (now out) ⌝ }
     ensures { λ r. ⌜ Stored (refusedLine number step) (now (out .entry)) r (now (out .exit)) ⌝ }

@@ -5,7 +5,7 @@ use Rattle.exports.proofs.argcol_fresh.Statement.{statement}
 use Rattle.exports.proofs.argcol_fresh.Tie as tie
 
 returns : tie.Need-returns
-returns c = opened-so _ _ _ _ (c .number-of .ensures) (c .before .before .before .fresh .ensures)
+returns c = let f = c .before .before .before .fresh in opened-so _ (f .result .answer) _ _ (c .number-of .ensures) (f .ensures)
 
 pub argcol-fresh-spec : {M : Type 1} → statement M
 argcol-fresh-spec =

@@ -44,6 +44,7 @@ use denote.Triple.Table.{entered, cited}
 use denote.Triple.Walked.{says, Stays, stay-ref, walkOf, goes-ref, Walks, ends-at, walked, walk-meets}
 use Rattle.head.specs.declared.Head.{Head}
 use Rattle.fresh.specs.declared.Opened.{Opened}
+use Rattle.facts.specs.Fresh.{numberOf, countOf}
 use Rattle.fresh.specs.Call.{Outcome, lend}
 use Rattle.lent.proofs.Left.{rest, all-left, go-left}
 use Rattle.head.proofs.Head as T
@@ -87,7 +88,7 @@ module _ {M : Type 1} (𝓤 : URA M) (H : Heap 𝓤) (A : Atoms 𝓤) (W : Given
 
   -- what the core ensures, at its result and at the last lists
   abbrev Said : Opened → List ℕ → Type 0
-  Said r t′ = Outcome (lend (h .used) (h .active) t) (r .answer) (lend (r .head .used) (r .head .active) t′)
+  Said r t′ = Outcome (lend (h .used) (h .active) t) (numberOf (r .answer)) (countOf (r .answer)) (lend (r .head .used) (r .head .active) t′)
 
   abbrev Tail : List RattleType
   Tail = MutSlice (named 0) (κs .0) u32 ∷ []

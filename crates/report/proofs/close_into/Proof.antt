@@ -1,5 +1,4 @@
 -- `report::close_into`: what is stored for the answer is the text of the outcome. Assumes nothing.
-use mathlib.Core.Path.{refl}
 use Rattle.report.proofs.Reporting.{outcome-text}
 use borrow.Author.Needs.{needs}
 use Rattle.report.proofs.close_into.Statement.{statement}
@@ -7,9 +6,9 @@ use Rattle.report.proofs.close_into.Tie as tie
 
 returns : tie.Need-returns
 returns c =
-    let o = c .before .before .before .before .before .before .before .before .before .close .ensures in
+    let o = c .before .before .before .before .before .before .before .before .before .before .close .ensures in
     let said = c .before .before .put-answer .ensures in
-    (record { verdict = _; after = _; outcome = o; table = refl; types = refl; stored = outcome-text _ _ _ _ _ _ _ o (said .0) }, said .1)
+    (record { verdict = _; outcome = o; stored = outcome-text _ _ _ _ _ _ _ o (said .0) }, said .1)
 
 pub close-into-spec : {M : Type 1} → statement M
 close-into-spec =
