@@ -48,10 +48,13 @@ uint32_t argcol_step(uint32_t *used, uint32_t *active, uint32_t *table, size_t t
                      size_t stack_len, uint32_t *memory, size_t memory_len, const uint32_t *numbers, size_t numbers_len);
 
 /*
- * The closing. The packed word is the eight numbers at word, highest first; at flag 0 there is none, and they may be anything.
+ * The closing. start is document 01's start pc: the place in code at which the function's own code begins to run, behind the dispatch by selector. A checked
+ * length of the call data is looked for there. The packed word is the eight numbers at word, highest first; at flag 0 there is none, and they may be anything.
  * Returns 0, or 1, 2, 3, 9 or 8 for the question that is answered with no.
  * The last four are written by every call: kind is one of the four above; entries, left and length (of the head, in bytes) are 0 unless it is granted. The
  * list's codes then stand at the start of types, and the rest of types is as it was. A closing that is not refused leaves the filled records in table.
+ * Where the list ends follows from its codes. At first as many types are wanted as there are entries; each code takes one off and adds the types that it calls
+ * for: 1 for code 5, n for code 16384 + n, none for the others. The list ends behind the code that leaves none wanted.
  */
 uint32_t argcol_closing(uint32_t *used, uint32_t *active, uint32_t *table, size_t table_len, const uint8_t *code, size_t code_len, uint32_t start,
                         uint32_t flag, const uint32_t word[ARGCOL_WORD], uint16_t *types, size_t types_len, uint32_t *kind, uint32_t *entries,

@@ -8,15 +8,28 @@ pub enum Closing {
     None,
     /// Too large to say.
     Over,
+    /// The types that the facts give.
     Granted(List),
 }
 
 /// A closing's answer, its list left as codes.
 #[derive(Clone, Copy, Debug, PartialEq, Eq)]
 pub enum Answer {
+    /// No argument is known.
     None,
+    /// Too large to say.
     Over,
-    Granted { entries: u32, left: u32, head_length: u32 },
+    /// The list stands at the start of the codes.
+    Granted {
+        /// Types of the list, one for each argument word.
+        entries: u32,
+        /// Codes of the list; what lies beyond them in the buffer is as it was.
+        codes: usize,
+        /// What is left of the budget of 8,192.
+        left: u32,
+        /// 32 bytes for each entry.
+        head_length: u32,
+    },
 }
 
 /// A granted list.
@@ -29,14 +42,8 @@ pub struct List {
 }
 
 impl List {
-    /// From a granted closing's answer: so many types stand at the start of the codes.
-    pub(crate) fn new(mut codes: Vec<u16>, entries: u32, left: u32, head_length: u32) -> Self {
-        let (mut length, mut wanted) = (0, entries as usize);
-        while wanted > 0 {
-            wanted = wanted - 1 + parts(codes[length]);
-            length += 1;
-        }
-        codes.truncate(length);
+    /// From a granted closing's codes, without what lies beyond them.
+    pub(crate) fn new(codes: Vec<u16>, left: u32, head_length: u32) -> Self {
         let types = Type::from_codes(&codes).expect("a granted list is of well-formed types");
         Self { types, codes, left, head_length }
     }
@@ -46,6 +53,7 @@ impl List {
         &self.types
     }
 
+    /// The types alone.
     pub fn into_types(self) -> Vec<Type> {
         self.types
     }
@@ -60,10 +68,20 @@ impl List {
         self.left
     }
 
-    /// 32 for each entry.
+    /// 32 bytes for each entry.
     pub fn head_length(&self) -> u32 {
         self.head_length
     }
+}
+
+/// How many codes so many types take. They stand at the start; what lies beyond them isn't read.
+pub(crate) fn codes_of(entries: u32, codes: &[u16]) -> usize {
+    let (mut length, mut wanted) = (0, entries as usize);
+    while wanted > 0 {
+        wanted = wanted - 1 + parts(codes[length]);
+        length += 1;
+    }
+    length
 }
 
 /// How many types a code calls for.

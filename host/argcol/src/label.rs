@@ -3,42 +3,54 @@
 use crate::word::{BadNumbers, Word};
 use std::fmt;
 
-/// Numbers of a label, a slot, a memory entry and a step.
+/// Numbers of a label.
 pub const LABEL: usize = 13;
+/// Numbers of a stack slot: a word and a label.
 pub const SLOT: usize = 21;
+/// Numbers of a memory entry.
 pub const ENTRY: usize = 15;
+/// Numbers of a step.
 pub const STEP: usize = 59;
 
 /// What is known of a value that came out of the call data.
 #[derive(Clone, Copy, Debug, PartialEq, Eq, Hash)]
 pub struct Arg {
+    /// In bytes, from the start of what the path stands for; the root's starts behind the selector.
     pub offset: u32,
     /// A record's number; 1 is the root.
     pub path: u32,
+    /// The constant that was added to the value. By 4, the selector's length, an offset becomes a place in the call data.
     pub added: u32,
+    /// The mask that the value was put through, if it was.
     pub mask: Option<Word>,
 }
 
 impl Arg {
-    /// Nothing added, no mask.
+    /// The argument at an offset of a path: nothing added, no mask.
     pub fn at(offset: u32, path: u32) -> Self {
         Self { offset, path, added: 0, mask: None }
     }
 
-    pub fn plus(self, added: u32) -> Self {
+    /// The same with this added value, in place of the one that it had.
+    pub fn with_added(self, added: u32) -> Self {
         Self { added, ..self }
     }
 
+    /// The same with this mask, in place of the one that it had.
     pub fn masked(self, mask: impl Into<Word>) -> Self {
         Self { mask: Some(mask.into()), ..self }
     }
 }
 
+/// Where a value came from.
 #[derive(Clone, Copy, Debug, Default, PartialEq, Eq, Hash)]
 pub enum Label {
+    /// Nothing is known.
     #[default]
     None,
+    /// From the call data, of no known argument.
     CallData,
+    /// An argument's value.
     Arg(Arg),
     /// The zero test of an argument.
     ZeroTest(Arg),
@@ -106,16 +118,19 @@ impl fmt::Display for Label {
 /// A stack slot, or an operand of a step.
 #[derive(Clone, Copy, Debug, Default, PartialEq, Eq, Hash)]
 pub struct Slot {
+    /// The value.
     pub word: Word,
+    /// Where it came from.
     pub label: Label,
 }
 
 impl Slot {
+    /// A word with a label.
     pub fn new(word: impl Into<Word>, label: impl Into<Label>) -> Self {
         Self { word: word.into(), label: label.into() }
     }
 
-    /// Without a label.
+    /// A word without a label.
     pub fn plain(word: impl Into<Word>) -> Self {
         Self { word: word.into(), label: Label::None }
     }
@@ -138,11 +153,14 @@ impl TryFrom<&[u32; SLOT]> for Slot {
     }
 }
 
-/// A memory entry. Replaced means that its bytes became the 32-byte word 1.
+/// A memory entry.
 #[derive(Clone, Copy, Debug, Default, PartialEq, Eq, Hash)]
 pub struct Entry {
+    /// Its place in memory, in bytes.
     pub offset: u32,
+    /// Its bytes became the 32-byte word 1.
     pub replaced: bool,
+    /// Where its bytes came from.
     pub label: Label,
 }
 
@@ -169,11 +187,14 @@ impl TryFrom<&[u32; ENTRY]> for Entry {
 /// What the machine hands over after an opcode ran.
 #[derive(Clone, Copy, Debug, Default, PartialEq, Eq, Hash)]
 pub struct Step {
+    /// The opcode's byte.
     pub op: u8,
-    /// The place behind the opcode.
+    /// The place in the code after the step, at which the next opcode is read.
     pub pc: u32,
+    /// As the published `StepResult` has them: mostly what was taken off the stack first and second, but for a CALLDATACOPY its place in the call data and
+    /// then the one in memory.
     pub operands: [Slot; 2],
-    /// The memory entry that the copy finds, from 0.
+    /// The memory entry that a copy finds. It counts from 0, as slices do; document 01's number and the text form of traces count from 1.
     pub pick: Option<u32>,
     /// The label of the one chunk that covers exactly bytes 0 to 32 of a memory load.
     pub load: Option<Label>,

@@ -19,7 +19,7 @@
 //! let mut session = Session::new(1_480)?;
 //! let steps = [
 //!     Step { op: CALLDATALOAD, operands: [Slot::plain(4u32), Slot::default()], ..Step::default() },
-//!     Step { op: CALLDATALOAD, operands: [Slot::new(0u32, Arg::at(0, 1).plus(4)), Slot::default()], ..Step::default() },
+//!     Step { op: CALLDATALOAD, operands: [Slot::new(0u32, Arg::at(0, 1).with_added(4)), Slot::default()], ..Step::default() },
 //!     Step { op: MUL, operands: [Slot::new(0u32, Arg::at(0, 2)), Slot::plain(32u32)], ..Step::default() },
 //! ];
 //! for step in &steps {
@@ -30,6 +30,8 @@
 //! assert_eq!((list.types().len(), list.left(), list.head_length()), (1, 8189, 32));
 //! # Ok::<(), argcol::Refused>(())
 //! ```
+
+#![warn(missing_docs)]
 
 mod closing;
 mod label;

@@ -46,26 +46,35 @@ mod archive {
 /// The head that goes along with every call: records used, decoder active.
 #[derive(Clone, Copy, Debug, PartialEq, Eq)]
 pub struct Head {
+    /// Records used, the root included.
     pub used: u32,
+    /// 1 while the decoder phase lasts, 0 after it.
     pub active: u32,
 }
 
-/// A closing's answer. Kind is 0 for a refusal, 1 for none, 2 for over, 3 for granted; the others are 0 unless it is granted.
+/// A closing's answer. Entries, left and length are 0 unless it is granted.
 #[derive(Clone, Copy, Debug, Default, PartialEq, Eq)]
 pub struct Answered {
+    /// The refusal's number, 0 for a call that is taken.
     pub number: u32,
+    /// 0 for a refusal, 1 for none, 2 for over, 3 for granted.
     pub kind: u32,
+    /// Types of the list, one for each argument word.
     pub entries: u32,
+    /// What is left of the budget of 8,192.
     pub left: u32,
+    /// The head's length, 32 bytes for each entry.
     pub length: u32,
 }
 
 // Each pointer below comes from a slice that is lent for the whole call, with that slice's length; `&mut` keeps the lent ones apart.
 
+/// The fresh call: a lone root, the other records zero, the decoder active. The head's numbers at entry may be anything.
 pub fn fresh(head: &mut Head, table: &mut [u32]) -> u32 {
     unsafe { archive::argcol_fresh(&mut head.used, &mut head.active, table.as_mut_ptr(), table.len()) }
 }
 
+/// A step: slots, entries and the step itself in document 01's numbers.
 pub fn step(head: &mut Head, table: &mut [u32], code: &[u8], stack: &mut [u32], memory: &mut [u32], numbers: &[u32]) -> u32 {
     unsafe {
         archive::argcol_step(
@@ -85,7 +94,7 @@ pub fn step(head: &mut Head, table: &mut [u32], code: &[u8], stack: &mut [u32], 
     }
 }
 
-/// At flag 0 there is no packed word, and its numbers may be anything.
+/// The closing. Start is the pc at which the function's own code begins to run. At flag 0 there is no packed word, and its numbers may be anything.
 pub fn closing(head: &mut Head, table: &mut [u32], code: &[u8], start: u32, flag: u32, word: &[u32; 8], types: &mut [u16]) -> Answered {
     // every call writes all of them
     let unwritten = u32::MAX;
@@ -112,7 +121,7 @@ pub fn closing(head: &mut Head, table: &mut [u32], code: &[u8], start: u32, flag
     said
 }
 
-/// The number, and the length of the text (0 if it is refused).
+/// The text call: the number, and the length of the text in bytes (0 if it is refused).
 pub fn text(codes: &[u16], out: &mut [u8]) -> (u32, usize) {
     let mut length = usize::MAX;
     let number = unsafe { archive::argcol_text(codes.as_ptr(), codes.len(), out.as_mut_ptr(), out.len(), &mut length) };

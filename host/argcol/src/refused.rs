@@ -3,20 +3,32 @@ use std::{error::Error, fmt};
 /// A refusal: the first question of document 01 whose answer was "no". Whatever the call was handed is as it was.
 #[derive(Clone, Copy, Debug, PartialEq, Eq, Hash)]
 pub enum Refused {
+    /// The fact table is not 1 to 16,384 records of 11 numbers.
     RecordCount = 1,
+    /// The head or the fact table is not sound.
     Unsound = 2,
+    /// The code has more than 65,536 bytes.
     LongCode = 3,
+    /// Stack or memory are not whole slots and entries, at most 1,024 each, or the step is not 59 numbers.
     Sizes = 4,
+    /// A label or a replaced mark is not well formed, or a label's path is no used record.
     Labels = 5,
+    /// The opcode, the pick, the load flag or a copy's place in memory is out of range.
     Step = 6,
+    /// The stack has no slot for what the opcode gives.
     EmptyStack = 7,
+    /// The call would add more records than are free.
     NoRoom = 8,
+    /// A closing's type slice has fewer than 8,192 numbers.
     ShortTypes = 9,
+    /// The codes are no whole number of well-formed types, or more than 8,192.
     NotTypes = 10,
+    /// The text is longer than the slice for it.
     TextTooLong = 11,
 }
 
 impl Refused {
+    /// All refusals, by their numbers.
     pub const ALL: [Self; 11] = [
         Self::RecordCount,
         Self::Unsound,
@@ -36,6 +48,7 @@ impl Refused {
         self as u32
     }
 
+    /// The refusal of a number, if it has one.
     pub fn from_number(number: u32) -> Option<Self> {
         Self::ALL.into_iter().find(|refused| refused.number() == number)
     }

@@ -1,5 +1,5 @@
 use crate::{
-    closing::{Answer, Closing, List},
+    closing::{Answer, Closing, List, codes_of},
     label::{ENTRY, Entry, SLOT, STEP, Slot, Step},
     raw::{self, Head},
     refused::Refused,
@@ -92,18 +92,23 @@ impl Session {
         Ok(Taken { made: used + 1..self.head.used + 1 })
     }
 
-    /// Closes: the list of types that the facts give. The packed word is the stack's top at the start, if there is one.
+    /// Closes: the list of types that the facts give. Start is the pc at which the function's own code begins to run; a checked length of the call data
+    /// is looked for there. The packed word is the stack's top at the start, if there is one.
     /// Takes up to 1.13 MB of the thread's stack, by the depth of the facts.
     pub fn close(&mut self, code: &[u8], start: u32, packed: Option<Word>) -> Result<Closing, Refused> {
         let mut types = vec![0; TYPES];
         Ok(match self.close_into(code, start, packed, &mut types)? {
             Answer::None => Closing::None,
             Answer::Over => Closing::Over,
-            Answer::Granted { entries, left, head_length } => Closing::Granted(List::new(types, entries, left, head_length)),
+            Answer::Granted { codes, left, head_length, .. } => {
+                types.truncate(codes);
+                Closing::Granted(List::new(types, left, head_length))
+            }
         })
     }
 
-    /// Closes, with the codes in a buffer of the caller's, 8,192 numbers or more. What lies beyond the list keeps its value.
+    /// Closes, with the codes in a buffer of the caller's, 8,192 numbers or more. The answer says how many codes the list has; what lies beyond them
+    /// keeps its value.
     /// Takes up to 1.13 MB of the thread's stack, by the depth of the facts.
     pub fn close_into(&mut self, code: &[u8], start: u32, packed: Option<Word>, types: &mut [u16]) -> Result<Answer, Refused> {
         let said = raw::closing(&mut self.head, &mut self.table, code, start, u32::from(packed.is_some()), &packed.unwrap_or_default().0, types);
@@ -111,7 +116,11 @@ impl Session {
         Ok(match said.kind {
             1 => Answer::None,
             2 => Answer::Over,
-            _ => Answer::Granted { entries: said.entries, left: said.left, head_length: said.length },
+            3 => {
+                let codes = codes_of(said.entries, types);
+                Answer::Granted { entries: said.entries, codes, left: said.left, head_length: said.length }
+            }
+            kind => unreachable!("a closing that is taken is of kind 1, 2 or 3, and not {kind}"),
         })
     }
 }

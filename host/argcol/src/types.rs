@@ -4,20 +4,29 @@ use std::fmt;
 /// The most codes that a list has.
 pub const TYPES: usize = 8192;
 
-/// An ABI type.
-#[derive(Clone, Debug, PartialEq, Eq, Hash)]
+/// An ABI type. A value made by hand may be none, as `Uint(7)`.
+///
+/// Comparing, hashing, dropping and showing by `{:?}` call themselves once for each level. A closing's types are shallow; a list of 8,192 codes may be of
+/// as many levels, and showing these by `{:?}` takes more than the 2 MB that a thread's stack has by default, if the build isn't optimized.
+#[derive(Debug, PartialEq, Eq, Hash)]
 pub enum Type {
+    /// `bool`.
     Bool,
+    /// `address`.
     Address,
+    /// `bytes`, of any length.
     Bytes,
+    /// `string`.
     String,
+    /// `T[]`, of any length.
     Array(Box<Type>),
-    /// Bits, 8 to 256 in eights.
+    /// `uint8` to `uint256`: bits, 8 to 256 in eights.
     Uint(u16),
+    /// `int8` to `int256`: bits, 8 to 256 in eights.
     Int(u16),
-    /// Bytes, 1 to 32.
+    /// `bytes1` to `bytes32`: bytes, 1 to 32.
     FixedBytes(u16),
-    /// Two types or more.
+    /// `(a,b)`: two types or more.
     Tuple(Vec<Type>),
 }
 
@@ -59,9 +68,14 @@ impl Type {
 
     /// The codes. A part that is no ABI type, as `Uint(7)`, has 0, which is no code.
     pub fn codes(&self) -> Vec<u16> {
+        self.all().into_iter().map(Self::code).collect()
+    }
+
+    /// The type and its parts down to the innermost, each before its own parts: no depth takes stack.
+    fn all(&self) -> Vec<&Self> {
         let (mut out, mut rest) = (Vec::new(), vec![self]);
         while let Some(ty) = rest.pop() {
-            out.push(ty.code());
+            out.push(ty);
             match ty {
                 Self::Array(inner) => rest.push(inner),
                 Self::Tuple(parts) => rest.extend(parts.iter().rev()),
@@ -85,6 +99,29 @@ impl Type {
             Self::FixedBytes(bytes) => fit(3000, matches!(bytes, 1..=32), *bytes),
             Self::Tuple(parts) => fit(16384, matches!(parts.len(), 2..TYPES), parts.len() as u16),
         }
+    }
+}
+
+/// Not the derived one, which calls itself once for each level.
+impl Clone for Type {
+    fn clone(&self) -> Self {
+        // from the back, as `from_codes` does
+        let mut behind = Vec::new();
+        for ty in self.all().into_iter().rev() {
+            let copy = match ty {
+                Self::Bool => Self::Bool,
+                Self::Address => Self::Address,
+                Self::Bytes => Self::Bytes,
+                Self::String => Self::String,
+                Self::Array(_) => Self::Array(Box::new(behind.pop().expect("its part is behind it"))),
+                Self::Uint(bits) => Self::Uint(*bits),
+                Self::Int(bits) => Self::Int(*bits),
+                Self::FixedBytes(bytes) => Self::FixedBytes(*bytes),
+                Self::Tuple(parts) => Self::Tuple(behind.drain(behind.len() - parts.len()..).rev().collect()),
+            };
+            behind.push(copy);
+        }
+        behind.pop().expect("the type itself is left")
     }
 }
 

@@ -5,7 +5,9 @@ use std::{fmt, str::FromStr};
 pub struct Word(pub [u32; 8]);
 
 impl Word {
+    /// 0.
     pub const ZERO: Self = Self([0; 8]);
+    /// 2^256 - 1.
     pub const MAX: Self = Self([u32::MAX; 8]);
 
     /// The value, if it is below 2^64.
@@ -40,6 +42,7 @@ impl From<[u8; 32]> for Word {
     }
 }
 
+/// To 32 bytes, highest first.
 impl From<Word> for [u8; 32] {
     fn from(word: Word) -> Self {
         std::array::from_fn(|i| word.0[i / 4].to_be_bytes()[i % 4])
@@ -77,7 +80,7 @@ impl FromStr for Word {
     }
 }
 
-/// Numbers that stand for no label, slot, entry, step or type.
+/// Numbers that stand for no label, slot, entry, step or type, or text that stands for no word; and why.
 #[derive(Clone, Copy, Debug, PartialEq, Eq)]
 pub struct BadNumbers(pub &'static str);
 

@@ -4,7 +4,7 @@ use argcol::*;
 
 #[test]
 fn numbers_there_and_back() {
-    let arg = Arg::at(64, 3).plus(4);
+    let arg = Arg::at(64, 3).with_added(4);
     let mut load = [0; STEP];
     for label in [Label::None, Label::CallData, Label::Arg(arg), Label::ZeroTest(arg.masked(Word::MAX)), Label::Arg(arg.masked(0u32))] {
         let numbers = <[u32; LABEL]>::from(label);
@@ -19,6 +19,7 @@ fn numbers_there_and_back() {
     }
     assert_eq!(&load[..3], [255, 9, 0]);
     assert_eq!((load[9], load[10], load[44], load[45]), (77, 2, 5, 1));
+    assert_eq!(arg.with_added(36).masked(1u32).masked(2u32), Arg { offset: 64, path: 3, added: 36, mask: Some(Word::from(2u32)) });
     let mut numbers = <[u32; LABEL]>::from(Label::Arg(arg));
     assert_eq!(numbers, [2, 64, 3, 4, 0, 0, 0, 0, 0, 0, 0, 0, 0]);
     for (at, value) in [(0, 4), (0, 0), (0, 1), (4, 2), (12, 1)] {
@@ -68,6 +69,14 @@ fn numbers_of_no_step() {
 }
 
 #[test]
+fn words_as_bytes() {
+    let bytes: [u8; 32] = std::array::from_fn(|i| 0x10 + i as u8);
+    let numbers = [0x1011_1213, 0x1415_1617, 0x1819_1a1b, 0x1c1d_1e1f, 0x2021_2223, 0x2425_2627, 0x2829_2a2b, 0x2c2d_2e2f];
+    assert_eq!(Word::from(bytes), Word(numbers));
+    assert_eq!(<[u8; 32]>::from(Word::from(numbers)), bytes);
+}
+
+#[test]
 fn words_as_text() {
     for (text, word) in [
         ("0", Word::ZERO),
@@ -98,8 +107,8 @@ fn labels_as_text() {
         (Label::None, "none"),
         (Label::CallData, "calldata"),
         (Label::Arg(arg), "arg 64 path 3"),
-        (Label::ZeroTest(arg.plus(4)), "zero-test 64 path 3 add 4"),
-        (Label::Arg(arg.plus(4).masked(255u32)), "arg 64 path 3 add 4 mask 255"),
+        (Label::ZeroTest(arg.with_added(4)), "zero-test 64 path 3 add 4"),
+        (Label::Arg(arg.with_added(4).masked(255u32)), "arg 64 path 3 add 4 mask 255"),
         (Label::ZeroTest(arg.masked(1u64 << 32)), "zero-test 64 path 3 mask 0x100000000"),
     ] {
         assert_eq!(label.to_string(), text);

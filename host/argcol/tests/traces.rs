@@ -4,10 +4,6 @@ use argcol::{
     Arg, ENTRY, Entry, Label, SLOT, STEP, Slot, Step, Word,
     trace::{CODE_LIMIT, COUNT_LIMIT, Trace, TraceStep},
 };
-use std::{
-    io::Write,
-    process::{Command, Output, Stdio},
-};
 
 const P1: &str = include_str!("../traces/p1.trace");
 
@@ -88,7 +84,7 @@ fn the_documented_form() {
     let lines = source.lines().skip_while(|line| *line != "//! ```text").skip(1).take_while(|line| *line != "//! ```");
     let text: String = lines.map(|line| line.strip_prefix("//! ").unwrap().to_string() + "\n").collect();
     let trace = Trace::from_text(&text).unwrap();
-    let (arg, mask) = (Arg::at(0, 2).plus(4), 0xffu32);
+    let (arg, mask) = (Arg::at(0, 2).with_added(4), 0xffu32);
     let step =
         Step { op: 0x02, pc: 7, operands: [Slot::new(0u32, arg.masked(mask)), Slot::plain(32u32)], pick: Some(0), load: Some(Label::CallData) };
     let slots = vec![Slot::new(5u32, Label::ZeroTest(Arg::at(4, 1))).into()];
@@ -132,6 +128,36 @@ fn what_is_no_text() {
 }
 
 #[test]
+fn why_it_is_no_text() {
+    for (text, reason) in [
+        ("stop", "`stop` begins no line; code, start, packed, unpacked, step, first, second, pick, load, load-flag, slot, entry do"),
+        ("step MUL\nstop", "`stop` begins no line; code, start, packed, unpacked, step, first, second, pick, load, load-flag, slot, entry do"),
+        ("pick x", "no step stands before this line"),
+        ("step MUL\npick x", "`x` is no number below 2^32, in decimal or in hex behind 0x"),
+        ("start 4294967296", "`4294967296` is no number below 2^32, in decimal or in hex behind 0x"),
+        ("packed x", "`x`: a word is decimal below 2^64, or hex behind 0x"),
+        ("step MUL\nslot 5 6", "`6`: a label is none, calldata, arg, zero-test or numbers"),
+    ] {
+        assert_eq!(Trace::from_text(text).unwrap_err().reason, reason);
+    }
+}
+
+/// The printer's bytes for so much code begin with `#`, with the end of a line, and with a letter and the end of a line.
+#[test]
+fn bytes_are_no_text() {
+    for (length, line) in [(0x23, 1), (0x0a, 2), (0x0a41, 2)] {
+        let bytes = Trace { code: vec![b'x'; length], ..Trace::default() }.to_bytes();
+        let bad = Trace::from_text(str::from_utf8(&bytes).unwrap()).unwrap_err();
+        assert_eq!(bad.line, Some(line));
+        assert_eq!(bad.reason, "there is a control character; the printer's bytes are read by `trace_text text`");
+    }
+    for control in ['\0', '\x0b', '\x1b', '\x7f', '\u{85}'] {
+        assert_eq!(Trace::from_text(&format!("start 1\n# {control}")).unwrap_err().line, Some(2));
+    }
+    assert_eq!(Trace::from_text("start\t1\r\n").unwrap().start, 1);
+}
+
+#[test]
 fn lines_that_stand_once() {
     for (first, second, name) in [
         ("start 0", "start 0", "start"),
@@ -162,7 +188,7 @@ fn what_are_no_bytes() {
     assert!(Trace::from_bytes(&[&bytes[..], &[0]].concat()).is_err());
     let mut flagged = bytes.clone();
     flagged[8] = 2;
-    assert!(Trace::from_bytes(&flagged).is_err());
+    assert_eq!(Trace::from_bytes(&flagged).unwrap_err().reason, "the packed flag is above 1");
     let code = |length| Trace { code: vec![0; length], ..Trace::default() };
     let slots = |count| TraceStep { numbers: [0; STEP], slots: vec![[0; SLOT]; count], entries: vec![] };
     let entries = |count| TraceStep { numbers: [0; STEP], slots: vec![], entries: vec![[0; ENTRY]; count] };
@@ -171,7 +197,7 @@ fn what_are_no_bytes() {
         assert_eq!(Trace::from_bytes(&most.to_bytes()), Ok(most));
     }
     let reason = |trace: Trace| Trace::from_bytes(&trace.to_bytes()).unwrap_err().reason;
-    assert_eq!(reason(code(24_577)), "the code has more than 24,576 bytes, or the packed flag is above 1");
+    assert_eq!(reason(code(24_577)), "the code has more than 24,576 bytes");
     for step in [slots(257), entries(257)] {
         assert_eq!(reason(steps(step)), "a step has more than 256 slots or entries");
     }
@@ -186,26 +212,23 @@ fn refused_traces_run_as_the_printer_says() {
     assert_eq!(Trace::from_text("code 0x6201f4043610").unwrap().run(), "refused 8 at 0\n");
 }
 
-fn program(command: &str, input: &[u8]) -> Output {
-    let mut child = Command::new(env!("CARGO_BIN_EXE_trace_text"))
-        .arg(command)
-        .stdin(Stdio::piped())
-        .stdout(Stdio::piped())
-        .stderr(Stdio::piped())
-        .spawn()
-        .unwrap();
-    child.stdin.take().unwrap().write_all(input).unwrap();
-    child.wait_with_output().unwrap()
-}
-
+/// A trace made by hand may be larger than the printer takes: it says so when it would read that.
 #[test]
-fn the_program_there_and_back() {
-    let trace = Trace::from_text(P1).unwrap();
-    let bytes = program("bytes", P1.as_bytes());
-    assert!(bytes.status.success() && bytes.stdout == trace.to_bytes());
-    assert_eq!(program("text", &bytes.stdout).stdout, trace.to_text().as_bytes());
-    assert_eq!(program("run", P1.as_bytes()).stdout, b"args 1 left 8189 head 32\n0 uint256[]\n");
-    let bad = program("bytes", b"step MUL\nfirst x");
-    assert!(!bad.status.success() && bad.stdout.is_empty());
-    assert_eq!(bad.stderr, b"line 2: a word is decimal below 2^64, or hex behind 0x\n");
+fn traces_over_the_sizes_run_as_the_printer_says() {
+    let step = |op, slots, entries| {
+        let numbers = (&Step { operands: [Slot::plain(4u32), Slot::default()], ..Step::default() }).into();
+        let mut step = TraceStep { numbers, slots: vec![[0; SLOT]; slots], entries: vec![[0; ENTRY]; entries] };
+        step.numbers[0] = op;
+        step
+    };
+    let run = |length, steps| Trace { code: vec![0; length], steps, ..Trace::default() }.run();
+    let (load, bad) = (0x35, 256);
+    assert_eq!(run(CODE_LIMIT, vec![step(load, COUNT_LIMIT, COUNT_LIMIT)]), "args 1 left 8190 head 32\n0 uint256\n");
+    for steps in [vec![], vec![step(load, 1, 0)], vec![step(bad, 1, 0)]] {
+        assert_eq!(run(CODE_LIMIT + 1, steps), "input refused\n", "long code is met first");
+    }
+    for (slots, entries) in [(COUNT_LIMIT + 1, 0), (1, COUNT_LIMIT + 1)] {
+        assert_eq!(run(0, vec![step(load, 1, 0), step(bad, slots, entries)]), "input refused\n", "before its call");
+        assert_eq!(run(0, vec![step(bad, 1, 0), step(load, slots, entries)]), "refused 6 at 1\n", "after the calls before it");
+    }
 }

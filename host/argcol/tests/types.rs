@@ -48,23 +48,34 @@ fn on_a_threads_stack(run: impl FnOnce() + Send + 'static) {
     std::thread::Builder::new().stack_size(2 << 20).spawn(run).unwrap().join().unwrap();
 }
 
-/// The deepest types that a list of codes can stand for are read, written, shown and dropped on the stack that a thread has by default.
+/// The deepest types that a list of codes can stand for are read, written, shown, copied and dropped on the stack that a thread has by default.
 #[test]
 fn the_deepest_types() {
     on_a_threads_stack(|| {
         let arrays = [&[5; TYPES - 1][..], &[1256]].concat();
         let types = Type::from_codes(&arrays).unwrap();
-        assert_eq!((types.len(), types[0].codes()), (1, arrays));
+        assert_eq!((types.len(), types[0].codes()), (1, arrays.clone()));
         assert_eq!(types[0].to_string(), "uint256".to_string() + &"[]".repeat(TYPES - 1));
+        assert!(types[0].clone().codes() == arrays);
         let levels = std::iter::successors(Some(&types[0]), |ty| if let Type::Array(inner) = ty { Some(inner) } else { None });
         assert_eq!(levels.count(), TYPES);
         drop(types);
         // a pair whose second part is a pair, and so on
         let tuples = [&[16_386, 1].repeat(TYPES / 2 - 1)[..], &[2]].concat();
         let types = Type::from_codes(&tuples).unwrap();
-        assert_eq!((types.len(), types[0].codes()), (1, tuples));
+        assert_eq!((types.len(), types[0].codes()), (1, tuples.clone()));
+        assert!(types[0].clone().codes() == tuples);
         drop(types);
     });
+}
+
+#[test]
+fn copies() {
+    use Type::*;
+    // parts of all kinds, some of them no ABI types
+    let pair = Tuple(vec![Int(0), FixedBytes(99)]);
+    let ty = Tuple(vec![Uint(7), Array(Box::new(Tuple(vec![]))), pair, Bool, Address, Bytes, String]);
+    assert_eq!(ty.clone(), ty);
 }
 
 #[test]

@@ -3,8 +3,10 @@
 //!     bench                  everything
 //!     bench only NAME N      one call 200 times, for a profiler: step, closing, text or sound, on N facts of a wide table; or scattered, the soundness alone
 
+mod agreed;
 mod calls;
 mod clock;
+mod moves;
 mod only;
 mod printed;
 mod reads;

@@ -10,8 +10,8 @@ pub fn only(name: &str, facts: usize) {
     let (codes, step, long) = (if name == "text" { scene.list() } else { Vec::new() }, scene.steps()[0].1, vec![0; 65_537]);
     for _ in 0..200 {
         match name {
-            "step" => drop(raw::step(&mut s.head, &mut s.table, &s.code, &mut s.stack, &mut s.memory, &step)),
-            "closing" => drop(raw::closing(&mut s.head, &mut s.table, &s.code, 0, 0, &[0; 8], &mut types)),
+            "step" => drop(s.step(&step)),
+            "closing" => drop(s.close(&mut types)),
             "text" => drop(raw::text(&codes, &mut out)),
             "sound" | "scattered" => drop(raw::step(&mut s.head, &mut s.table, &long, &mut s.stack, &mut s.memory, &step)),
             _ => panic!("step, closing, text, sound or scattered"),

@@ -1,8 +1,9 @@
-//! Sound tables, stacks, memories and steps to time.
+//! Sound tables, stacks and memories to time.
 
+use crate::moves::{Move, array_mark};
 use argcol::{
-    Arg, ENTRY, Entry, Label, RECORD, SLOT, STEP, Slot, Step, TYPES, Word,
-    raw::{self, Head},
+    Arg, ENTRY, Entry, Label, RECORD, SLOT, Slot, TYPES,
+    raw::{self, Answered, Head},
 };
 
 #[derive(Clone, Copy)]
@@ -64,6 +65,27 @@ impl Scene {
         Self::of(&[(1, 32 * (entries as u32 - 1))], records)
     }
 
+    /// An array of pairs and a pair by turns: three records to an entry, its own before those of its parts.
+    pub fn nested(entries: usize, records: usize) -> Self {
+        let places = (0..entries).flat_map(|i| {
+            let (own, first) = (3 * i + 2, if i % 2 == 0 { 32 } else { 0 });
+            [(1, 32 * i as u32), (own, first), (own, first + 32)]
+        });
+        let mut scene = Self::of(&places.collect::<Vec<_>>(), records);
+        for (i, parts) in scene.table[RECORD..].chunks_mut(3 * RECORD).take(entries).enumerate() {
+            let (kind, count) = if i % 2 == 0 { (2, 2) } else { (1, 1) };
+            parts[7..RECORD].copy_from_slice(&[kind, count, 0, 0]);
+        }
+        scene
+    }
+
+    /// With a code that begins with the test of a least length, of so many words.
+    pub fn checked(mut self, words: usize) -> Self {
+        let [.., high, middle, low] = (4 + 32 * words as u32).to_be_bytes();
+        self.code[..6].copy_from_slice(&[0x62, high, middle, low, 0x36, 0x10]);
+        self
+    }
+
     fn of(places: &[(usize, u32)], records: usize) -> Self {
         let used = places.len() + 1;
         let mut table = vec![0; RECORD * records];
@@ -86,9 +108,13 @@ impl Scene {
     }
 
     /// With a stack and a memory in which every fourth value is an argument.
-    pub fn with(mut self, slots: usize, entries: usize) -> Self {
+    pub fn with(self, slots: usize, entries: usize) -> Self {
+        self.holding(slots, entries, Arg::at(0, 1).with_added(4))
+    }
+
+    fn holding(mut self, slots: usize, entries: usize, arg: Arg) -> Self {
         let label = |i: usize| match i % 4 {
-            0 => Label::Arg(Arg::at(0, 1).plus(4)),
+            0 => Label::Arg(arg),
             2 => Label::CallData,
             _ => Label::None,
         };
@@ -97,37 +123,31 @@ impl Scene {
         self
     }
 
-    /// Steps that leave the facts as they are when they are taken again.
-    pub fn steps(&self) -> [(&'static str, [u32; STEP]); 4] {
-        // loads are followed up to 130,047
-        let last = self.table.chunks(RECORD).take(self.head.used as usize).map(|record| record[0]).filter(|key| *key <= 130_043).max().unwrap();
-        let step = |op, first, second| <[u32; STEP]>::from(&Step { op, operands: [first, second], ..Step::default() });
-        let address = Word([0, 0, 0, u32::MAX, u32::MAX, u32::MAX, u32::MAX, u32::MAX]);
-        [
-            ("POP", step(0x50, Slot::default(), Slot::default())),
-            ("ADD", step(0x01, Slot::new(0u32, Arg::at(0, 1)), Slot::plain(4u32))),
-            ("AND", step(0x16, Slot::new(0u32, Arg::at(0, 1)), Slot::plain(address))),
-            ("load of the last word", step(0x35, Slot::plain(last + 4), Slot::default())),
-        ]
+    /// A wide table after an array mark on word 0, with the record of its not-bool mark as the last; every fourth value has the label that was marked, but not
+    /// yet the word 1.
+    pub fn marked(used: usize, records: usize, slots: usize, entries: usize) -> Self {
+        let label = Arg::at(0, 2);
+        let mut scene = Self::new(Shape::Wide, used - 1, records).holding(1, 0, label);
+        assert_eq!((scene.step(&array_mark()), scene.head.used as usize), (0, used));
+        scene.holding(slots, entries, label)
     }
 
-    /// A load below the last record but one, which has a child at key 0 in a deep table.
-    pub fn far_down(&self) -> [u32; STEP] {
-        let first = Slot::new(0u32, Arg::at(0, self.head.used - 1).plus(36));
-        (&Step { op: 0x35, operands: [first, Slot::default()], ..Step::default() }).into()
+    /// The answer of our step.
+    pub fn step(&mut self, step: &Move) -> u32 {
+        raw::step(&mut self.head, &mut self.table, &self.code, &mut self.stack, &mut self.memory, step)
     }
 
-    pub fn revert(&self) -> [u32; STEP] {
-        (&Step { op: 0xfd, ..Step::default() }).into()
+    pub fn close(&mut self, types: &mut [u16]) -> Answered {
+        raw::closing(&mut self.head, &mut self.table, &self.code, 0, 0, &[0; 8], types)
     }
 
     /// The codes of the list that a closing grants.
     pub fn list(&self) -> Vec<u16> {
-        let (mut s, mut types) = (self.clone(), vec![0; TYPES]);
-        let said = raw::closing(&mut s.head, &mut s.table, &[], 0, 0, &[0; 8], &mut types);
+        let mut types = vec![0; TYPES];
+        let said = self.clone().close(&mut types);
         assert_eq!((said.number, said.kind), (0, 3));
-        // no entry of these has a type inside
-        types.truncate(said.entries as usize);
+        // no code is 0, and nothing is written beyond the last
+        types.retain(|code| *code != 0);
         types
     }
 }
@@ -136,6 +156,21 @@ impl Scene {
 mod tests {
     use super::*;
     use std::collections::HashMap;
+
+    #[test]
+    fn nested_entries_are_an_array_of_pairs_and_a_pair_by_turns() {
+        let text = argcol::text(&Scene::nested(3, 10).list());
+        assert_eq!(text.unwrap(), "(address,bool)[],(bytes4,uint256),(bytes32,uint256)[]");
+    }
+
+    #[test]
+    fn a_checked_length_fills_the_head() {
+        for words in [64, 4_064] {
+            let mut scene = Scene::lone(words, words + 1).checked(words);
+            assert_eq!(scene.close(&mut vec![0; TYPES]).entries as usize, words);
+            assert_eq!(scene.head.used as usize, words + 1);
+        }
+    }
 
     /// Every word has one record, and the chain goes from one to the next by no stride, that of 1 included.
     #[test]

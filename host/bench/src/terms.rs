@@ -19,7 +19,7 @@ impl Scene {
         let records = || self.table.chunks(RECORD).zip(&paths[1..]);
         let fact =
             |(f, path): (&[u32], &Path)| Fact { path: path.clone(), kind: f[7], count: f[8], name: f[9], confidence: f[10], blocked: f[6] == 1 };
-        let mut facts: Vec<Fact> = records().map(fact).collect();
+        let mut facts: Vec<Fact> = records().filter(|(f, _)| f[4] == 1).map(fact).collect();
         // the published source's order, whatever the numbers
         facts.sort_by(|a, b| a.path.cmp(&b.path));
         let not_bool = records().filter(|(f, _)| f[5] == 1).map(|(_, path)| path.clone());
@@ -32,7 +32,8 @@ impl Scene {
         let stack: Vec<Slot> = self.stack.as_chunks().0.iter().map(|numbers| numbers.try_into().unwrap()).collect();
         let memory: Vec<Entry> = self.memory.as_chunks().0.iter().map(|numbers| numbers.try_into().unwrap()).collect();
         let step = Step::try_from(step).unwrap();
-        let entry = |entry: &Entry| rust::Entry { offset: entry.offset, bytes: vec![0; 32], tag: tag(&entry.label, &paths) };
+        let bytes = |replaced: bool| [vec![0; 31], vec![u8::from(replaced)]].concat();
+        let entry = |entry: &Entry| rust::Entry { offset: entry.offset, bytes: bytes(entry.replaced), tag: tag(&entry.label, &paths) };
         let slot = |slot: &Slot| rust::Slot { word: slot.word.into(), tag: tag(&slot.label, &paths) };
         let handed = rust::Step { op: step.op, pc: step.pc as usize, args: step.operands.each_ref().map(slot), load: None };
         (stack.iter().map(slot).collect(), memory.iter().map(entry).collect(), handed)

@@ -13,21 +13,28 @@ use std::{
     process::ExitCode,
 };
 
+fn read_text(input: &[u8]) -> Result<Trace, Box<dyn Error>> {
+    let text = str::from_utf8(input).map_err(|error| format!("{error}; the printer's bytes are read by `trace_text text`"))?;
+    Ok(Trace::from_text(text)?)
+}
+
 fn run() -> Result<(), Box<dyn Error>> {
-    let command = std::env::args().nth(1).unwrap_or_default();
-    if !["bytes", "text", "run"].contains(&command.as_str()) {
+    let mut words = std::env::args().skip(1);
+    let command = words.next().unwrap_or_default();
+    if !["bytes", "text", "run"].contains(&command.as_str()) || words.next().is_some() {
         return Err("trace_text bytes | text | run, from standard input to standard output".into());
     }
     let mut input = Vec::new();
     stdin().read_to_end(&mut input)?;
-    let written = || String::from_utf8(input.clone()).map_err(Box::<dyn Error>::from).and_then(|text| Ok(Trace::from_text(&text)?));
     let output = match command.as_str() {
-        "bytes" => written()?.to_bytes(),
+        "bytes" => read_text(&input)?.to_bytes(),
         "text" => Trace::from_bytes(&input)?.to_text().into_bytes(),
-        _ => written()?.run().into_bytes(),
+        _ => read_text(&input)?.run().into_bytes(),
     };
-    stdout().write_all(&output)?;
-    Ok(())
+    let mut out = stdout();
+    out.write_all(&output)?;
+    // the end of the program would flush too, but tell nobody if that fails
+    Ok(out.flush()?)
 }
 
 fn main() -> ExitCode {

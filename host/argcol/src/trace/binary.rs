@@ -34,12 +34,16 @@ fn put(out: &mut Vec<u8>, numbers: &[u32]) {
 }
 
 impl Trace {
-    /// Reads the printer's bytes, and refuses what the printer refuses as input.
+    /// Reads the printer's bytes, and refuses what isn't whole or is larger than the printer takes. The printer takes each step as soon as it has read it,
+    /// so for bytes that are refused here it may meet a refused step first, and print that.
     pub fn from_bytes(bytes: &[u8]) -> Result<Self, BadTrace> {
         let mut from = Bytes(bytes);
         let [length, start, flag] = from.numbers()?;
-        if length as usize > CODE_LIMIT || flag > 1 {
-            return bad("the code has more than 24,576 bytes, or the packed flag is above 1");
+        if length as usize > CODE_LIMIT {
+            return bad("the code has more than 24,576 bytes");
+        }
+        if flag > 1 {
+            return bad("the packed flag is above 1");
         }
         let word = Word(from.numbers()?);
         let code = from.take(length as usize)?.to_vec();
@@ -58,6 +62,7 @@ impl Trace {
         Ok(Self { code, start, packed: flag == 1, word, steps })
     }
 
+    /// The printer's bytes.
     pub fn to_bytes(&self) -> Vec<u8> {
         let mut out = Vec::new();
         put(&mut out, &[self.code.len() as u32, self.start, u32::from(self.packed)]);

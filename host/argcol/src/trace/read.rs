@@ -1,11 +1,16 @@
 //! From the text form to a trace.
 
-use super::{BadTrace, CODE_LIMIT, COUNT_LIMIT, Trace, TraceStep, bad, opcodes, words::Words};
+use super::{BadTrace, CODE_LIMIT, Trace, TraceStep, bad, opcodes, words::Words};
 use crate::{ENTRY, STEP};
 
 impl Trace {
-    /// Reads the text form, and refuses what is larger than the printer takes.
+    /// Reads the text form, and refuses what is larger than the printer takes. Control characters other than tabs and ends of lines are refused, so that no
+    /// bytes of the printer pass for text.
     pub fn from_text(text: &str) -> Result<Self, BadTrace> {
+        if let Some(i) = text.lines().position(|line| line.contains(is_no_text)) {
+            let reason = "there is a control character; the printer's bytes are read by `trace_text text`".into();
+            return Err(BadTrace { line: Some(i + 1), reason });
+        }
         let mut reader = Reader::default();
         for (i, line) in text.lines().enumerate() {
             let mut words = Words::of(line);
@@ -16,6 +21,14 @@ impl Trace {
         Ok(reader.trace)
     }
 }
+
+/// The printer's bytes always have such a character: their first number, at most 24,576, has a byte 0.
+fn is_no_text(character: char) -> bool {
+    character.is_control() && !['\t', '\r', '\n'].contains(&character)
+}
+
+/// The lines that stand in a step.
+const IN_STEP: [&str; 7] = ["first", "second", "pick", "load", "load-flag", "slot", "entry"];
 
 /// The trace so far, and the lines met that stand once: in the trace, and in its last step.
 #[derive(Default)]
@@ -42,10 +55,11 @@ impl Reader {
                 self.trace.steps.push(step(words)?);
                 self.met_in_step.clear();
             }
-            _ => {
+            _ if IN_STEP.contains(&name) => {
                 let Some(step) = self.trace.steps.last_mut() else { return bad("no step stands before this line") };
                 step.put_line(name, words, &mut self.met_in_step)?;
             }
+            _ => return bad(&format!("`{name}` begins no line; code, start, packed, unpacked, step, {} do", IN_STEP.join(", "))),
         }
         Ok(())
     }
@@ -107,9 +121,9 @@ impl TraceStep {
             }
             "slot" => self.slots.push(words.slot()?),
             "entry" => self.entries.push(entry(words)?),
-            _ => return bad("a line begins with code, start, packed, unpacked, step, first, second, pick, load, load-flag, slot or entry"),
+            _ => unreachable!("`{name}` is no line of a step"),
         }
-        if self.slots.len().max(self.entries.len()) > COUNT_LIMIT { bad("a step has more than 256 slots or entries") } else { Ok(()) }
+        if self.is_over() { bad("a step has more than 256 slots or entries") } else { Ok(()) }
     }
 }
 

@@ -32,12 +32,14 @@ impl<'a> Words<'a> {
     }
 
     pub(super) fn word(&mut self) -> Result<Word, BadTrace> {
-        self.next()?.parse().or_else(|reason: BadNumbers| bad(reason.0))
+        let text = self.next()?;
+        text.parse().or_else(|reason: BadNumbers| bad(&format!("`{text}`: {reason}")))
     }
 
     pub(super) fn number(&mut self) -> Result<u32, BadTrace> {
-        let value = self.word()?.to_u64().and_then(|value| u32::try_from(value).ok());
-        value.map_or_else(|| bad("the number is 2^32 or more"), Ok)
+        let text = self.next()?;
+        let value = text.parse::<Word>().ok().and_then(Word::to_u64).and_then(|value| u32::try_from(value).ok());
+        value.map_or_else(|| bad(&format!("`{text}` is no number below 2^32, in decimal or in hex behind 0x")), Ok)
     }
 
     pub(super) fn slot(&mut self) -> Result<[u32; SLOT], BadTrace> {
@@ -62,7 +64,7 @@ impl<'a> Words<'a> {
             "calldata" => out[0] = 1,
             "arg" => self.argument(2, &mut out)?,
             "zero-test" => self.argument(3, &mut out)?,
-            _ => return bad("a label is none, calldata, arg, zero-test or numbers"),
+            other => return bad(&format!("`{other}`: a label is none, calldata, arg, zero-test or numbers")),
         }
         Ok(out)
     }

@@ -1,9 +1,9 @@
-//! Steps that several tests make.
+//! Steps that several tests make, and what they get.
 
 // no test uses all of it
 #![allow(dead_code)]
 
-use argcol::{Arg, RECORD, Slot, Step};
+use argcol::{Arg, Closing, List, RECORD, Slot, Step};
 
 pub const ADD: u8 = 0x01;
 pub const MUL: u8 = 0x02;
@@ -25,4 +25,11 @@ pub fn load(place: u32) -> Step {
 
 pub fn load_at(arg: Arg) -> Step {
     Step { op: CALLDATALOAD, operands: [Slot::new(0u32, arg), Slot::default()], ..Step::default() }
+}
+
+pub fn granted(closing: Closing) -> List {
+    match closing {
+        Closing::Granted(list) => list,
+        other => panic!("{other:?}"),
+    }
 }

@@ -18,20 +18,56 @@ pub enum DynSolType {
 impl DynSolType {
     /// The ABI's canonical name.
     pub fn name(&self) -> String {
+        // as much as a name without parts has
+        let mut out = String::with_capacity(8);
+        self.push_name(&mut out);
+        out
+    }
+
+    /// All parts of a name go into one text, and widths without `format!`, as in the crate: the benchmarks time it.
+    fn push_name(&self, out: &mut String) {
         match self {
-            Self::Bool => "bool".into(),
-            Self::Int(bits) => format!("int{bits}"),
-            Self::Uint(bits) => format!("uint{bits}"),
-            Self::FixedBytes(bytes) => format!("bytes{bytes}"),
-            Self::Address => "address".into(),
-            Self::Function => "function".into(),
-            Self::Bytes => "bytes".into(),
-            Self::String => "string".into(),
-            Self::Array(inner) => inner.name() + "[]",
-            Self::FixedArray(inner, n) => format!("{}[{n}]", inner.name()),
-            Self::Tuple(parts) => format!("({})", parts.iter().map(Self::name).collect::<Vec<_>>().join(",")),
+            Self::Bool => out.push_str("bool"),
+            Self::Int(bits) => push_sized(out, "int", *bits),
+            Self::Uint(bits) => push_sized(out, "uint", *bits),
+            Self::FixedBytes(bytes) => push_sized(out, "bytes", *bytes),
+            Self::Address => out.push_str("address"),
+            Self::Function => out.push_str("function"),
+            Self::Bytes => out.push_str("bytes"),
+            Self::String => out.push_str("string"),
+            Self::Array(inner) => {
+                inner.push_name(out);
+                out.push_str("[]");
+            }
+            Self::FixedArray(inner, n) => {
+                inner.push_name(out);
+                push_sized(out, "[", *n);
+                out.push(']');
+            }
+            Self::Tuple(parts) => {
+                out.push('(');
+                for (i, part) in parts.iter().enumerate() {
+                    if i > 0 {
+                        out.push(',');
+                    }
+                    part.push_name(out);
+                }
+                out.push(')');
+            }
         }
     }
+}
+
+fn push_sized(out: &mut String, name: &str, size: usize) {
+    out.push_str(name);
+    push_number(out, size);
+}
+
+fn push_number(out: &mut String, number: usize) {
+    if number >= 10 {
+        push_number(out, number / 10);
+    }
+    out.push((b'0' + (number % 10) as u8) as char);
 }
 
 #[cfg(test)]

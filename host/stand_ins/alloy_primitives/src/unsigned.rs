@@ -26,58 +26,60 @@ impl U256 {
         Self([value, 0, 0, 0])
     }
 
+    #[inline]
     pub const fn from_limbs(limbs: [u64; 4]) -> Self {
         Self(limbs)
     }
 
+    // The conversions below go by whole limbs, as in the crate: they are inside what the benchmarks time.
+
+    #[inline]
     pub const fn to_le_bytes(self) -> [u8; 32] {
-        let (mut bytes, mut i) = ([0; 32], 0);
-        while i < 32 {
-            bytes[i] = (self.0[i / 8] >> (8 * (i % 8))) as u8;
-            i += 1;
-        }
+        let mut bytes = [0; 32];
+        let [a, b, c, d] = bytes.as_chunks_mut().0 else { unreachable!() };
+        (*a, *b, *c, *d) = (self.0[0].to_le_bytes(), self.0[1].to_le_bytes(), self.0[2].to_le_bytes(), self.0[3].to_le_bytes());
         bytes
     }
 
+    #[inline]
     pub const fn to_be_bytes(self) -> [u8; 32] {
-        let (from, mut bytes, mut i) = (self.to_le_bytes(), [0; 32], 0);
-        while i < 32 {
-            bytes[i] = from[31 - i];
-            i += 1;
-        }
-        bytes
+        self.swapped().to_le_bytes()
     }
 
+    #[inline]
     pub const fn from_le_bytes(bytes: [u8; 32]) -> Self {
-        let (mut limbs, mut i) = ([0; 4], 0);
-        while i < 32 {
-            limbs[i / 8] |= (bytes[i] as u64) << (8 * (i % 8));
-            i += 1;
-        }
-        Self(limbs)
+        let [a, b, c, d] = bytes.as_chunks().0 else { unreachable!() };
+        Self([u64::from_le_bytes(*a), u64::from_le_bytes(*b), u64::from_le_bytes(*c), u64::from_le_bytes(*d)])
     }
 
+    #[inline]
     pub const fn from_be_bytes(bytes: [u8; 32]) -> Self {
-        let (mut turned, mut i) = ([0; 32], 0);
-        while i < 32 {
-            turned[i] = bytes[31 - i];
-            i += 1;
-        }
-        Self::from_le_bytes(turned)
+        Self::from_le_bytes(bytes).swapped()
     }
 
+    /// The bytes in the other order.
+    #[inline]
+    const fn swapped(self) -> Self {
+        let [a, b, c, d] = self.0;
+        Self([d.swap_bytes(), c.swap_bytes(), b.swap_bytes(), a.swap_bytes()])
+    }
+
+    #[inline]
     pub const fn is_zero(&self) -> bool {
         self.0[0] | self.0[1] | self.0[2] | self.0[3] == 0
     }
 
+    #[inline]
     pub const fn bit(&self, at: usize) -> bool {
         at < 256 && self.0[at / 64] >> (at % 64) & 1 == 1
     }
 
+    #[inline]
     pub fn leading_zeros(&self) -> usize {
         256 - self.bit_len()
     }
 
+    #[inline]
     pub fn bit_len(&self) -> usize {
         (0..4).rev().find(|&i| self.0[i] != 0).map_or(0, |i| 64 * i + 64 - self.0[i].leading_zeros() as usize)
     }
@@ -87,6 +89,7 @@ impl U256 {
         T::try_from(self).ok().expect("fits")
     }
 
+    #[inline]
     pub(crate) fn shifted_up(self, by: usize) -> Self {
         let mut out = [0; 4];
         if by < 256 {
@@ -101,6 +104,7 @@ impl U256 {
         Self(out)
     }
 
+    #[inline]
     pub(crate) fn shifted_down(self, by: usize) -> Self {
         let mut out = [0; 4];
         if by < 256 {
@@ -115,6 +119,7 @@ impl U256 {
         Self(out)
     }
 
+    #[inline]
     fn added(self, other: Self) -> (Self, bool) {
         let (mut out, mut carry) = ([0; 4], false);
         for i in 0..4 {
@@ -178,12 +183,14 @@ impl U256 {
 }
 
 impl PartialOrd for U256 {
+    #[inline]
     fn partial_cmp(&self, other: &Self) -> Option<Ordering> {
         Some(self.cmp(other))
     }
 }
 
 impl Ord for U256 {
+    #[inline]
     fn cmp(&self, other: &Self) -> Ordering {
         self.0.iter().rev().cmp(other.0.iter().rev())
     }
@@ -192,6 +199,7 @@ impl Ord for U256 {
 impl Add for U256 {
     type Output = Self;
 
+    #[inline]
     fn add(self, other: Self) -> Self {
         self.added(other).0
     }
@@ -200,6 +208,7 @@ impl Add for U256 {
 impl Sub for U256 {
     type Output = Self;
 
+    #[inline]
     fn sub(self, other: Self) -> Self {
         self + !other + Self::ONE
     }
@@ -208,6 +217,7 @@ impl Sub for U256 {
 impl Mul for U256 {
     type Output = Self;
 
+    #[inline]
     fn mul(self, other: Self) -> Self {
         let mut out = [0u64; 4];
         for i in 0..4 {
@@ -241,6 +251,7 @@ impl Rem for U256 {
 impl Not for U256 {
     type Output = Self;
 
+    #[inline]
     fn not(self) -> Self {
         Self(self.0.map(|limb| !limb))
     }
@@ -251,6 +262,7 @@ macro_rules! by_limbs {
         impl $trait for U256 {
             type Output = Self;
 
+            #[inline]
             fn $method(self, other: Self) -> Self {
                 Self(std::array::from_fn(|i| self.0[i] $op other.0[i]))
             }
@@ -267,6 +279,7 @@ macro_rules! shifts {
             impl Shl<$t> for U256 {
                 type Output = Self;
 
+                #[inline]
                 fn shl(self, by: $t) -> Self {
                     self.shifted_up(usize::try_from(by).unwrap_or(256))
                 }
@@ -275,6 +288,7 @@ macro_rules! shifts {
             impl Shr<$t> for U256 {
                 type Output = Self;
 
+                #[inline]
                 fn shr(self, by: $t) -> Self {
                     self.shifted_down(usize::try_from(by).unwrap_or(256))
                 }
@@ -288,6 +302,7 @@ macro_rules! narrow {
     ($($t:ty),*) => {
         $(
             impl From<$t> for U256 {
+                #[inline]
                 fn from(value: $t) -> Self {
                     Self([value as u64, 0, 0, 0])
                 }
@@ -296,6 +311,7 @@ macro_rules! narrow {
             impl TryFrom<U256> for $t {
                 type Error = FromUintError<$t>;
 
+                #[inline]
                 fn try_from(value: U256) -> Result<Self, Self::Error> {
                     match value.0 {
                         [low, 0, 0, 0] => low.try_into().map_err(|_| FromUintError(PhantomData)),
@@ -309,6 +325,7 @@ macro_rules! narrow {
 narrow!(u8, u16, u32, u64, usize);
 
 impl From<bool> for U256 {
+    #[inline]
     fn from(value: bool) -> Self {
         Self([u64::from(value), 0, 0, 0])
     }
@@ -316,6 +333,7 @@ impl From<bool> for U256 {
 
 /// For literals without a suffix.
 impl From<i32> for U256 {
+    #[inline]
     fn from(value: i32) -> Self {
         Self::from(u32::try_from(value).expect("no negative number"))
     }

@@ -104,6 +104,9 @@ fn each_operation() {
         let (x, y, z) = (pick(0, &mut random), pick(1, &mut random), random.word());
         let (a, b, c) = (bits(x), bits(y), bits(z));
         assert_eq!(number(&a), x);
+        let mut turned = x.to_be_bytes();
+        turned.reverse();
+        assert_eq!((x.to_le_bytes(), U256::from_le_bytes(turned)), (turned, x));
         assert_eq!(x + y, number(&plus(&a, &b)));
         assert_eq!(x - y, number(&minus(&a, &b)));
         assert_eq!(x * y, number(&times(&a, &b)));

@@ -12,20 +12,39 @@ pub mod fast {
     impl BuildHasher for FixedState {
         type Hasher = Folded;
 
+        #[inline]
         fn build_hasher(&self) -> Folded {
-            Folded(0xcbf2_9ce4_8422_2325)
+            Folded(0x2437_54a3_a0d3_0831)
+        }
+    }
+
+    impl Folded {
+        /// The halves of the whole product, folded: one multiplication for eight bytes, as in the crate.
+        #[inline]
+        fn fold(&mut self, number: u64) {
+            let product = u128::from(self.0 ^ number) * 0x9e37_79b9_7f4a_7c15;
+            self.0 = product as u64 ^ (product >> 64) as u64;
         }
     }
 
     impl Hasher for Folded {
+        #[inline]
         fn write(&mut self, bytes: &[u8]) {
-            for &byte in bytes {
-                self.0 = (self.0 ^ u64::from(byte)).wrapping_mul(0x0000_0100_0000_01b3);
-            }
+            let (eights, rest) = bytes.as_chunks();
+            let (fours, rest) = rest.as_chunks();
+            eights.iter().for_each(|part| self.fold(u64::from_le_bytes(*part)));
+            fours.iter().for_each(|part| self.fold(u32::from_le_bytes(*part).into()));
+            rest.iter().for_each(|byte| self.fold((*byte).into()));
         }
 
+        #[inline]
+        fn write_usize(&mut self, number: usize) {
+            self.fold(number as u64);
+        }
+
+        #[inline]
         fn finish(&self) -> u64 {
-            self.0 ^ self.0 >> 29
+            self.0
         }
     }
 }
