@@ -135,6 +135,29 @@ fn four_an_argument_added_with_an_empty_stack() {
     }
 }
 
+/// Arms that don't read the stack: LT, SHL of the second operand, AND with a mask that gives no type, and ISZERO of a zero test, which alone names.
+#[test]
+fn four_other_arms_with_an_empty_stack() {
+    let arg = |offset| Arg { offset, path: vec![], added: 0, mask: None };
+    let (label, labelled) = ([2, 32, 1, 0], Slot { tag: Tag::Arg(arg(32)), ..Slot::default() });
+    let five = Slot { word: std::array::from_fn(|i| if i == 31 { 5 } else { 0 }), tag: Tag::None };
+    let tested = Slot { tag: Tag::ZeroTest(arg(32)), ..Slot::default() };
+    for (op, first, second, args) in [
+        (0x10, (0, label), (5, BARE), [labelled.clone(), five.clone()]),
+        (0x1b, (5, BARE), (0, label), [five.clone(), labelled.clone()]),
+        (0x16, (0, label), (5, BARE), [labelled.clone(), five.clone()]),
+        (0x15, (0, [3, 32, 1, 0]), (0, BARE), [tested.clone(), Slot::default()]),
+    ] {
+        refused(&mut scene(4), &numbers(u32::from(op), first, second), 7);
+        if published::AT_HAND {
+            let (failed, state) = analyzed(&[], Vec::new(), Vec::new(), op, args);
+            let names: Vec<u32> = state.facts.iter().map(|fact| fact.name).collect();
+            let expected = if op == 0x15 { (vec![0, 1], 0) } else { (vec![0], 1) };
+            assert_eq!((failed, (names, state.not_bool.len())), (false, expected), "{op:#x}");
+        }
+    }
+}
+
 #[test]
 fn four_a_copy_to_a_wide_place() {
     let mut copy = numbers(0x37, (0, BARE), (0, BARE));
@@ -186,7 +209,7 @@ fn four_a_closing_of_more_code_than_is_taken() {
 
 /// The source's list is empty for both; `published::close`, which tells them apart, asserts that.
 #[test]
-fn four_none_and_over() {
+fn five_none_and_over() {
     assert_eq!(close(&mut scene(4), 0), (Verdict::None, vec![]));
     // a lone argument at key 262,112
     let mut over = scene(2);
