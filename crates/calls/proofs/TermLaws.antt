@@ -1,6 +1,7 @@
--- Demand 3's terms are what the closing asks: an argument is known exactly if the root has a seen child, and no fact lies deeper than 64 exactly if the depths say so.
+-- Demand 3's terms are what the closing asks: an argument is known exactly if the root has a seen child, and no fact
+-- lies deeper than 64 exactly if the depths say so.
 -- Assumes nothing.
-use Prim.Native.Nat.{ℕ, zero, suc, _-_, _≤_, _<_}
+use Prim.Native.Nat.{ℕ, zero, suc, _≤_, _<_}
 use mathlib.Core.Path.{_≡_, refl, sym, ap, _∙_}
 use mathlib.Core.Bool.{Bool, true, false, true≢false, cond, not, _&&_, _||_, and-eq-true-iff}
 use mathlib.Core.Logic.{_⊎_, inl, inr}
@@ -15,13 +16,13 @@ use Rattle.facts.specs.Links.{In}
 use Rattle.facts.specs.Formed.{Formed}
 use Rattle.facts.specs.State.{Node, nodeOf, kidsIn}
 use Rattle.paths.specs.Depth.{depthUp, depthOf}
+use Rattle.paths.specs.Path.{pathOf}
 use Rattle.paths.proofs.Reach.{path-of}
 use Rattle.paths.proofs.Sounds.{formed-ordered}
+use Rattle.paths.proofs.PathLaws.{root-path}
 use Rattle.list.specs.Seen.{seenOnes, childrenIn, isEmpty}
 use Rattle.list.specs.Budget.{shallowTo, shallow}
 use Rattle.budget.proofs.KidLaws.{kid-child, child-kid}
-use Rattle.entries.specs.Agree.{pathOf}
-use Rattle.entries.proofs.PathLaws.{root-path}
 use Rattle.calls.specs.Terms.{Fact, SomeArgument, NoneDeeper}
 
 -- a seen one among them, and one among the seen

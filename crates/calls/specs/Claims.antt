@@ -1,4 +1,5 @@
--- What demand 3 claims, in its own words and order; proofs/Demand3.antt proves each. Assumes nothing: these are definitions.
+-- What demand 3 claims, in its own words and order; proofs/Demand3.antt proves each. Assumes nothing: these are
+-- definitions.
 use Prim.Native.Nat.{ℕ, _-_, _*_, _≤_}
 use mathlib.Core.Path.{_≡_}
 use mathlib.Core.Bool.{true}
@@ -9,50 +10,54 @@ use Rattle.limits.specs.Limits.{budgetMax, wordBytes, recordsMax}
 use Rattle.limits.specs.Questions.{taken}
 use Rattle.types.specs.Tree.{count}
 use Rattle.types.specs.Codes.{allCodes}
-use Rattle.facts.specs.State.{Node, nodes}
+use Rattle.facts.specs.State.{Node}
+use Rattle.head.specs.Held.{Held}
 use Rattle.list.specs.Budget.{spend}
 use Rattle.list.specs.Types.{listOf}
-use Rattle.fresh.specs.Call as fresh-call
+use Rattle.fresh.specs.Call.{opened}
 use Rattle.closing.specs.Words.{Handed, filled}
 use Rattle.closing.specs.Answer.{Verdict, none, over, isGranted, numberOf}
-use Rattle.closing.specs.Call as closing-call
+use Rattle.closing.specs.Call.{Outcome}
 use Rattle.calls.specs.Facts.{Call, known}
-use Rattle.calls.specs.Run.{Held, held, fresh, Run}
+use Rattle.calls.specs.Run.{Run}
 use Rattle.calls.specs.Terms.{SomeArgument, NoneDeeper, SumFits, WellListed}
 
--- what a fresh call that is taken with N records has left: N is 1 to 16,384, and these are the head and the table from which a list of calls starts, "from a fresh table"
-pub record FirstOf (N : ℕ) (l : fresh-call.Lent) : Type 0 where
+-- what a fresh call that is taken with N records has left: N is 1 to 16,384, and these are the head and the table from
+-- which a list of calls starts, "from a fresh table"
+pub record FirstOf (N : ℕ) (t : Held) : Type 0 where
   pub some : 1 ≤ N
   pub most : N ≤ recordsMax
-  pub leaves : held (l .used) (l .active) (l .table) ≡ fresh N
+  pub leaves : t ≡ opened N
 
--- an answer judged by the facts s: it "grants a list exactly when some argument is known, no fact lies deeper than 64, and the sum over all facts of last word plus one
--- is at most 8,192. Otherwise it answers none if no argument is known, and over if one is."
+-- an answer judged by the facts s: it "grants a list exactly when some argument is known, no fact lies deeper than 64,
+-- and the sum over all facts of last word plus one is at most 8,192. Otherwise it answers none if no argument is known,
+-- and over if one is."
 pub record JudgedBy (s : List Node) (v : Verdict) : Type 0 where
   pub grants : (isGranted v ≡ true) ↔ (SomeArgument s × NoneDeeper s × SumFits s)
   pub none-known : (v ≡ none) ↔ (SomeArgument s → ⊥)
   pub over-known : (v ≡ over) ↔ (SomeArgument s × (NoneDeeper s × SumFits s → ⊥))
 
--- a closing in a list of calls, after those before it: what these left it, and its answer and what it left itself, as its contract says
-pub record ClosingIn (N : ℕ) (before : List Call) (h : Handed) (types : List ℕ) (answer : Verdict) (left : closing-call.Lent) : Type 0 where
+-- a closing in a list of calls, after those before it: what these left it, and its answer and what it left itself, as
+-- its contract says
+pub record ClosingIn (N : ℕ) (before : List Call) (h : Handed) (types : List ℕ) (answer : Verdict) (left : Held)
+    : Type 0 where
   pub handed : Held
-  pub ran : Run (fresh N) before handed
-  pub outcome : closing-call.Outcome (closing-call.lend (handed .used) (handed .active) (handed .table) types) h answer left
+  pub ran : Run (opened N) before handed
+  pub types′ : List ℕ
+  pub outcome : Outcome handed types h answer left types′
 
--- "every closing in it that is not refused, judged by the facts that document 01 works out from the calls alone, its own fill included"
+-- "every closing in it that is not refused, judged by the facts that document 01 works out from the calls alone, its
+-- own fill included"
 abbrev pub ClosingJudged : ℕ → List Call → Handed → Verdict → Type 0
 ClosingJudged N before h answer = numberOf answer ≡ taken → JudgedBy (filled (known N before .facts) h) answer
 
--- the facts of a closing that was lent l: those of its table, its own fill included
-abbrev pub factsOf : closing-call.Lent → Handed → List Node
-factsOf l h = filled (nodes (l .table) (l .used)) h
-
--- "A granted list, also one from a sound table got in another way, is the one that document 01 gives for its facts, reports as budget left 8,192 less that sum, is made of
--- ABI types only, has no more type parts than the sum, and nests at most 129 levels."
-pub record GrantedList (l : closing-call.Lent) (h : Handed) (entries left head : ℕ) (l′ : closing-call.Lent) : Type 0 where
-  pub list : l′ .types ≡ allCodes (listOf (factsOf l h)) ++ drop (length (allCodes (listOf (factsOf l h)))) (l .types)
-  pub counted : entries ≡ count (listOf (factsOf l h))
-  pub sum-fits : SumFits (factsOf l h)
-  pub budget-left : left ≡ budgetMax - spend (factsOf l h)
+-- "A granted list, also one from a sound table got in another way, is the one that document 01 gives for its facts,
+-- reports as budget left 8,192 less that sum, is made of ABI types only, has no more type parts than the sum, and nests
+-- at most 129 levels." The closing's facts s are those of its table, its own fill included
+pub record GrantedList (s : List Node) (types : List ℕ) (entries left head : ℕ) (types′ : List ℕ) : Type 0 where
+  pub list : types′ ≡ allCodes (listOf s) ++ drop (length (allCodes (listOf s))) types
+  pub counted : entries ≡ count (listOf s)
+  pub sum-fits : SumFits s
+  pub budget-left : left ≡ budgetMax - spend s
   pub head-is : head ≡ wordBytes * entries
-  pub listed : WellListed (factsOf l h) (listOf (factsOf l h))
+  pub listed : WellListed s (listOf s)

@@ -3,25 +3,27 @@ use Prim.Native.Nat.{ℕ}
 use mathlib.Core.Bool.{Bool, true, cond}
 use mathlib.Core.List.{List, [], _∷_}
 use lib.Dec.{eqb}
-use lib.ListN.{length}
+use Rattle.limits.specs.Questions.{taken}
 use Rattle.facts.specs.State.{Node, root}
+use Rattle.head.specs.Asked.{firstNo}
 use Rattle.labels.specs.Step.{stepOf}
-use Rattle.analyze.specs.Machine.{Machine}
 use Rattle.analyze.specs.Phases.{activeAfter}
-use Rattle.analyze.specs.Analyze.{analyze}
-use Rattle.step.specs.Questions as step-asks
+use Rattle.analyze.specs.Analyze.{Machine, analyze}
+use Rattle.step.specs.Questions.{stepTests}
 use Rattle.keeping.specs.Fits.{AreU32}
 use Rattle.closing.specs.Words.{Handed, filled}
-use Rattle.closing.specs.Call as closing-asks
+use Rattle.closing.specs.Call.{closingTests}
 
--- a step or a closing, and all that it is handed beside the table and the head: "all else it is handed is its own, and anything at all"
+-- a step or a closing, and all that it is handed beside the table and the head: "all else it is handed is its own, and
+-- anything at all"
 pub data Call : Type 0 where
   -- code, stack and memory, and the step's numbers: "All lent tables are u32 numbers"
   step : (bytes stack memory numbers : List ℕ) → AreU32 numbers → Call
   -- code, start pc and packed word, and the type slice
   closing : Handed → (types : List ℕ) → Call
 
--- what the calls so far say: the paths with their marks, in the order of their numbers, of which the seen ones are the facts, and whether the decoder is active
+-- what the calls so far say: the paths with their marks, in the order of their numbers, of which the seen ones are the
+-- facts, and whether the decoder is active
 pub record Known : Type 0 where
   pub facts : List Node
   pub active : Bool
@@ -34,13 +36,13 @@ start = record { facts = root ∷ []; active = true }
 abbrev pub machineOf : Known → List ℕ → List ℕ → Machine
 machineOf k stack memory = record { facts = k .facts; stack = stack; memory = memory }
 
--- "The questions are decided with the paths so far as the used records". Questions 1 and 2 are not asked here: with a record count of 1 to 16,384 no call after the fresh one
--- is refused by them (`facts-follow`, `calls-run`)
+-- "The questions are decided with the paths so far as the used records". Questions 1 and 2 are not asked here: with a
+-- record count of 1 to 16,384 no call after the fresh one is refused by them (`facts-follow`, `calls-run`)
 abbrev pub stepRefusal : ℕ → Known → List ℕ → List ℕ → List ℕ → List ℕ → ℕ
-stepRefusal N k bytes stack memory x = step-asks.refusal N (length (k .facts)) (machineOf k stack memory) (k .active) bytes x
+stepRefusal N k bytes stack memory x = firstNo (stepTests N (machineOf k stack memory) (k .active) bytes x)
 
 abbrev pub closingRefusal : ℕ → Known → Handed → List ℕ → ℕ
-closingRefusal N k h types = closing-asks.refusal N (k .facts) h types
+closingRefusal N k h types = firstNo (closingTests N (k .facts) h types)
 
 -- "A taken step looks its labels' path numbers up among these paths, and changes paths and decoder as said above."
 abbrev pub stepped : Known → List ℕ → List ℕ → List ℕ → List ℕ → Known
@@ -55,8 +57,9 @@ closed k h = record { facts = filled (k .facts) h; active = k .active }
 
 -- what is known after a call to a table of N records; "a refused call changes nothing"
 unfoldable pub after : ℕ → Known → Call → Known
-after N k (step bytes stack memory x u) = cond (eqb (stepRefusal N k bytes stack memory x) 0) (stepped k bytes stack memory x) k
-after N k (closing h types) = cond (eqb (closingRefusal N k h types) 0) (closed k h) k
+after N k (step bytes stack memory x u) =
+    cond (eqb (stepRefusal N k bytes stack memory x) taken) (stepped k bytes stack memory x) k
+after N k (closing h types) = cond (eqb (closingRefusal N k h types) taken) (closed k h) k
 
 -- after a list of calls
 unfoldable pub afterAll : ℕ → Known → List Call → Known

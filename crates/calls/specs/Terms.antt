@@ -1,4 +1,5 @@
--- The terms of demand 3, in its own and document 01's words, over a state s, whose seen nodes are the facts. Assumes nothing: these are definitions.
+-- The terms of demand 3, in its own and document 01's words, over a state s, whose seen nodes are the facts. Assumes
+-- nothing: these are definitions.
 use Prim.Native.Nat.{ℕ, _≤_, _<_}
 use mathlib.Core.Path.{_≡_}
 use mathlib.Core.Bool.{true}
@@ -8,9 +9,9 @@ use Rattle.limits.specs.Limits.{budgetMax, depthMax}
 use Rattle.types.specs.Tree.{AbiTypes, count, allWellFormed, levels}
 use Rattle.types.specs.Codes.{allCodes}
 use Rattle.facts.specs.State.{Node, nodeOf}
+use Rattle.paths.specs.Path.{pathOf}
 use Rattle.list.specs.Budget.{spend}
 use Rattle.entries.specs.Entry.{entryOf}
-use Rattle.entries.specs.Agree.{pathOf}
 
 -- "Facts are the seen records": r is one
 pub record Fact (s : List Node) (r : ℕ) : Type 0 where
@@ -24,7 +25,8 @@ pub record SomeArgument (s : List Node) : Type 0 where
   pub fact : Fact s number
   pub not-root : 1 < number
 
--- demand 3: "no fact lies deeper than 64"; document 01: "A fact's depth is the number of keys on its path from the root."
+-- demand 3: "no fact lies deeper than 64"; document 01: "A fact's depth is the number of keys on its path from the
+-- root."
 abbrev pub NoneDeeper : List Node → Type 0
 NoneDeeper s = (r : ℕ) → Fact s r → length (pathOf s r) ≤ depthMax
 
@@ -36,7 +38,8 @@ SumFits s = spend s ≤ budgetMax
 abbrev pub levelsMax : ℕ
 levelsMax = 129
 
--- demand 3: "is made of ABI types only, has no more type parts than the sum, and nests at most 129 levels"; document 01: "Type parts are codes". A list ts for s
+-- demand 3: "is made of ABI types only, has no more type parts than the sum, and nests at most 129 levels"; document
+-- 01: "Type parts are codes". A list ts for s
 pub record WellListed (s : List Node) (ts : AbiTypes) : Type 0 where
   pub types : allWellFormed ts ≡ true
   pub parts : length (allCodes ts) ≤ spend s

@@ -1,37 +1,32 @@
--- Questions 1 and 2: what each answer of the code says of the outcome. Assumes nothing.
-use Prim.Native.Nat.{ℕ, _≤_, _<_}
-use mathlib.Core.Path.{_≡_, refl, sym, subst, _∙_}
-use mathlib.Core.Bool.{Bool, true, false, not}
+-- A closing that is refused leaves everything, and one that question 1 or 2 refuses is so whatever else it is handed.
+-- Assumes nothing.
+use Prim.Native.Nat.{ℕ}
+use mathlib.Core.Path.{_≡_, refl, sym}
+use mathlib.Core.Bool.{false}
 use mathlib.Core.List.{List}
-use native.Mathlib.Omega.{arith}
-use lib.ListN.{length}
-use Rattle.facts.specs.declared.Records.{Records}
-use Rattle.facts.specs.declared.Records.the-variants.{Count, Unfit}
-use Rattle.facts.specs.Count.{recordCount, Counted}
-use Rattle.facts.specs.Sound.{Sound, Tells}
-use Rattle.facts.proofs.Counts.{NoCount, count-counted, counted-count}
-use Rattle.facts.proofs.Telling.{told-no, told-yes}
+use lib.Dec.{eqb}
+use Rattle.limits.specs.Questions.{taken}
+use Rattle.limits.specs.declared.refusal.Refusal.{Refusal}
+use Rattle.limits.specs.Refusal.{numberOf}
+use Rattle.limits.proofs.Refusals.{not-taken}
+use Rattle.head.specs.Held.{Held}
+use Rattle.head.specs.declared.Admitted.{Admitted}
+use Rattle.head.specs.declared.Admitted.the-variants.{Refused}
+use Rattle.head.specs.Asked.{firstNo, FirstNo, Admits, AdmittedBy}
+use Rattle.head.proofs.Asking.{sound-asked, refused-so}
 use Rattle.closing.specs.Words.{Handed}
-use Rattle.closing.specs.Answer.{Verdict, refused}
-use Rattle.closing.specs.Call.{Lent, lend, Judged, Outcome}
+use Rattle.closing.specs.Answer.{refused}
+use Rattle.closing.specs.Call.{testsOf, questions, Outcome}
 
-module _ (used active : ℕ) (table types : List ℕ) (h : Handed) (r : Records) (e : r ≡ recordCount (length table)) where
-  abbrev l : Lent
-  l = lend used active table types
+module _ (t : Held) (types : List ℕ) (h : Handed) where
+  nothing-done : (k : ℕ) → eqb k taken ≡ false → FirstNo (questions t h types) k → Outcome t types h (refused k) t types
+  nothing-done k z f = record { number = k; asked = f; answers = rw z refl; leaves = rw z refl; writes = rw z refl }
 
-  pub no-records : r ≡ Unfit → Outcome l h (refused 1) l
-  no-records q = Outcome.unfit (λ N C. subst (λ (z : Records). NoCount z) (sym q ∙ e ∙ counted-count (length table) N C) tt) refl refl
+  pub not-admitted : (a : Admitted) → AdmittedBy t a → (r : Refusal) → a ≡ Refused r
+      → Outcome t types h (refused (numberOf r)) t types
+  not-admitted a is r e = nothing-done (numberOf r) (not-taken r) (refused-so t a is (testsOf t h types) r e)
 
-  module _ (N : ℕ) (q : r ≡ Count N) where
-    pub counted : Counted (length table) N
-    counted = count-counted (length table) N (sym e ∙ q)
-
-    pub high-active : 1 < active → Outcome l h (refused 2) l
-    high-active g = Outcome.unsound N counted (λ S a. omega arith) refl refl
-
-    module _ (b : Bool) (T : Tells b (Sound table used N)) where
-      pub not-sound : not b ≡ true → Outcome l h (refused 2) l
-      not-sound n = Outcome.unsound N counted (λ S a. told-no b (Sound table used N) T n S) refl refl
-
-      pub judged-so : not b ≡ false → active ≤ 1 → (v : Verdict) (l′ : Lent) → Judged N l h v l′ → Outcome l h v l′
-      judged-so n a v l′ J = Outcome.judged N counted (told-yes b (Sound table used N) T n) a J
+  -- with a sound table the tests decide
+  pub refused-by : (N k : ℕ) → Admits t N → eqb k taken ≡ false → firstNo (testsOf t h types) ≡ k
+      → Outcome t types h (refused k) t types
+  refused-by N k A z e = nothing-done k z (sound-asked t (testsOf t h types) N k A (sym e))

@@ -1,5 +1,5 @@
 mod WordLaws
 mod AnswerLaws
-mod JudgeLaws
 mod Arriving
+mod JudgeLaws
 pub mod Outcomes

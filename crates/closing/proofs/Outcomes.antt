@@ -1,27 +1,22 @@
 -- `one-outcome`: the closing has one outcome for one input: its answer, its head and the lent slices. Assumes nothing.
 use Prim.Native.Nat.{ℕ}
-use mathlib.Core.Path.{_≡_, sym, subst, _∙_}
-use lib.ListN.{length}
-use Rattle.facts.specs.Sound.{Sound}
-use Rattle.facts.proofs.Counts.{count-once}
+use mathlib.Core.Path.{_≡_, sym, ap, _∙_}
+use mathlib.Core.Bool.{cond}
+use mathlib.Core.List.{List}
+use lib.Dec.{eqb}
+use Rattle.limits.specs.Questions.{taken}
+use Rattle.head.specs.Held.{Held, recordsIn, holding}
+use Rattle.head.proofs.Asking.{one-no}
 use Rattle.closing.specs.Words.{Handed}
-use Rattle.closing.specs.Answer.{Verdict}
-use Rattle.closing.specs.Call.{Lent, Judged, Outcome, unfit, unsound, judged}
+use Rattle.closing.specs.Answer.{Verdict, typesAfter}
+use Rattle.closing.specs.Call.{questions, factsAfter, answerBy, Outcome}
 
-module _ (l : Lent) (h : Handed) where
-  judged-once : (N : ℕ) (v w : Verdict) (l₁ l₂ : Lent) → Judged N l h v l₁ → Judged N l h w l₂ → (v ≡ w) × (l₁ ≡ l₂)
-  judged-once N v w l₁ l₂ J K = (J .answers ∙ sym (K .answers), J .leaves ∙ sym (K .leaves))
-
-  pub one-outcome : (v w : Verdict) (l₁ l₂ : Lent) → Outcome l h v l₁ → Outcome l h w l₂ → (v ≡ w) × (l₁ ≡ l₂)
-  one-outcome v w l₁ l₂ (unfit f e q) (unfit g d p) = (e ∙ sym d, q ∙ sym p)
-  one-outcome v w l₁ l₂ (unfit f e q) (unsound N C g d p) = absurd (f N C)
-  one-outcome v w l₁ l₂ (unfit f e q) (judged N C S a J) = absurd (f N C)
-  one-outcome v w l₁ l₂ (unsound N C f e q) (unfit g d p) = absurd (g N C)
-  one-outcome v w l₁ l₂ (unsound N C f e q) (unsound M D g d p) = (e ∙ sym d, q ∙ sym p)
-  one-outcome v w l₁ l₂ (unsound N C f e q) (judged M D S a J) =
-      absurd (f (subst (Sound (l .table) (l .used)) (count-once (length (l .table)) M N D C) S) a)
-  one-outcome v w l₁ l₂ (judged N C S a J) (unfit g d p) = absurd (g N C)
-  one-outcome v w l₁ l₂ (judged N C S a J) (unsound M D g d p) =
-      absurd (g (subst (Sound (l .table) (l .used)) (count-once (length (l .table)) N M C D) S) a)
-  one-outcome v w l₁ l₂ (judged N C S a J) (judged M D T b K) =
-      judged-once M v w l₁ l₂ (subst (λ (k : ℕ). Judged k l h v l₁) (count-once (length (l .table)) N M C D) J) K
+pub one-outcome : (t : Held) (types : List ℕ) (h : Handed) (v w : Verdict) (t₁ t₂ : Held) (c₁ c₂ : List ℕ)
+    → Outcome t types h v t₁ c₁ → Outcome t types h w t₂ c₂ → (v ≡ w) × (t₁ ≡ t₂) × (c₁ ≡ c₂)
+one-outcome t types h v w t₁ t₂ c₁ c₂ O P =
+    let s = factsAfter t h in
+    let e = one-no (questions t h types) (O .number) (P .number) (O .asked) (P .asked) in (
+      O .answers ∙ ap (λ (k : ℕ). answerBy k s) e ∙ sym (P .answers),
+      O .leaves ∙ ap (λ (k : ℕ). cond (eqb k taken) (holding (recordsIn t) (t .head .active) s) t) e ∙ sym (P .leaves),
+      O .writes ∙ ap (λ (k : ℕ). cond (eqb k taken) (typesAfter s types) types) e ∙ sym (P .writes),
+    )

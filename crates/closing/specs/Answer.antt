@@ -1,20 +1,22 @@
--- "The answer is none (the root has no seen child), over, or granted with entry count, budget left and head length (our addition), which is 32 times the entry count."
--- Assumes nothing: these are definitions.
+-- "The answer is none (the root has no seen child), over, or granted with entry count, budget left and head length (our
+-- addition), which is 32 times the entry count." Assumes nothing: these are definitions.
 use Prim.Native.Nat.{ℕ, suc, _-_, _*_}
 use mathlib.Core.Bool.{Bool, true, false, cond}
 use mathlib.Core.List.{List, _++_}
 use lib.ListN.{length, drop}
 use Rattle.limits.specs.Limits.{budgetMax, wordBytes}
-use Rattle.limits.specs.Questions.{taken, countQuestion, soundQuestion, codeQuestion, roomQuestion, sliceQuestion}
+use Rattle.limits.specs.Questions.{taken}
+use Rattle.limits.specs.Refusal.{numberOf as refusalNumber}
 use Rattle.types.specs.Codes.{allCodes}
 use Rattle.facts.specs.State.{Node}
 use Rattle.list.specs.Seen.{childrenIn, isEmpty, lastWord}
 use Rattle.list.specs.Budget.{spend, fitsBudget}
 use Rattle.list.specs.Types.{listOf}
 use Rattle.closing.specs.declared.Closing.{Closing}
-use Rattle.closing.specs.declared.Closing.the-variants.{NoRecords, Unsound, LongCode, ShortTypes, NoRoom, Nothing, Over, Granted}
+use Rattle.closing.specs.declared.Closing.the-variants.{Refused, Nothing, Over, Granted}
 
--- an answer in document 01's words: refused by a number, or "none", "over", "granted with entry count, budget left and head length"
+-- an answer in document 01's words: refused by a number, or "none", "over", "granted with entry count, budget left and
+-- head length"
 pub data Verdict : Type 0 where
   refused : ℕ → Verdict
   none over : Verdict
@@ -22,11 +24,7 @@ pub data Verdict : Type 0 where
 
 -- the number and the values of each answer of the call
 abbrev pub verdictOf : Closing → Verdict
-verdictOf NoRecords = refused countQuestion
-verdictOf Unsound = refused soundQuestion
-verdictOf LongCode = refused codeQuestion
-verdictOf NoRoom = refused roomQuestion
-verdictOf ShortTypes = refused sliceQuestion
+verdictOf (Refused r) = refused (refusalNumber r)
 verdictOf Nothing = none
 verdictOf Over = over
 verdictOf (Granted g) = granted (g .entries) (g .left) (g .length)
@@ -55,7 +53,8 @@ isGranted none = false
 isGranted over = false
 isGranted (granted e l h) = true
 
--- the slice with the list's codes at its start: "None and over leave the type slice as it was; so do granted lists beyond their last code."
+-- the slice with the list's codes at its start: "None and over leave the type slice as it was; so do granted lists
+-- beyond their last code."
 abbrev pub withList : List Node → List ℕ → List ℕ
 withList s types = allCodes (listOf s) ++ drop (length (allCodes (listOf s))) types
 

@@ -1,27 +1,17 @@
 -- "Closing": what the call answers and leaves, for any numbers at all. Assumes nothing: these are definitions.
-use Prim.Native.Nat.{ℕ, _≤_}
+use Prim.Native.Nat.{ℕ}
 use mathlib.Core.Path.{_≡_}
 use mathlib.Core.Bool.{Bool, cond}
-use mathlib.Core.List.{List}
+use mathlib.Core.List.{List, [], _∷_}
 use lib.Dec.{eqb, leb}
 use lib.ListN.{length}
 use Rattle.limits.specs.Limits.{typesRoom, codeMax}
-use Rattle.limits.specs.Questions.{taken, countQuestion, soundQuestion, codeQuestion, roomQuestion, sliceQuestion}
-use Rattle.facts.specs.Count.{Counted}
-use Rattle.facts.specs.Sound.{Sound}
-use Rattle.facts.specs.State.{Node, nodes, encode}
+use Rattle.limits.specs.Questions.{taken, codeQuestion, roomQuestion, sliceQuestion}
+use Rattle.facts.specs.State.{Node}
+use Rattle.head.specs.Held.{Held, recordsIn, factsIn, holding}
+use Rattle.head.specs.Asked.{Test, test, Questions, FirstNo, afterSound}
 use Rattle.closing.specs.Words.{Handed, filled}
 use Rattle.closing.specs.Answer.{Verdict, refused, answerOf, typesAfter}
-
--- what goes along with the call: the head's two numbers, the table and the type slice
-pub record Lent : Type 0 where
-  pub used : ℕ
-  pub active : ℕ
-  pub table : List ℕ
-  pub types : List ℕ
-
-abbrev pub lend : ℕ → ℕ → List ℕ → List ℕ → Lent
-lend used active table types = record { used = used; active = active; table = table; types = types }
 
 -- 3. "Is the code at most 65,536 bytes?"
 abbrev pub codeFits : Handed → Bool
@@ -35,30 +25,35 @@ typesFit types = leb typesRoom (length types)
 abbrev pub roomThere : ℕ → List Node → Handed → Bool
 roomThere N s h = leb (length (filled s h)) N
 
--- "After questions 1 to 3 comes 9 .. Then 8": the refusal's number, 0 where there is none
-unfoldable pub refusal : ℕ → List Node → Handed → List ℕ → ℕ
-refusal N s h types = cond (codeFits h) (cond (typesFit types) (cond (roomThere N s h) taken roomQuestion) sliceQuestion) codeQuestion
+-- "After questions 1 to 3 comes 9 .. Then 8": 3, 9 and 8 of the facts s in a table of N records
+unfoldable pub closingTests : ℕ → List Node → Handed → List ℕ → List Test
+closingTests N s h types =
+    test (codeFits h) codeQuestion
+    ∷ test (typesFit types) sliceQuestion
+    ∷ test (roomThere N s h) roomQuestion
+    ∷ []
 
--- the answer for the facts s
-unfoldable pub judge : ℕ → List Node → Handed → List ℕ → Verdict
-judge N s h types = cond (eqb (refusal N s h types) taken) (answerOf (filled s h)) (refused (refusal N s h types))
+-- of what is lent
+abbrev pub testsOf : Held → Handed → List ℕ → List Test
+testsOf t h types = closingTests (recordsIn t) (factsIn t) h types
 
--- what is left of the facts s in a table of N records: "Fill stays."
-abbrev pub leftBy : ℕ → ℕ → List Node → List ℕ → Lent
-leftBy N active s types = record { used = length s; active = active; table = encode N s; types = typesAfter s types }
+-- "The questions are taken in this order": 1 and 2, and then these
+abbrev pub questions : Held → Handed → List ℕ → Questions
+questions t h types = afterSound t (testsOf t h types)
 
--- the answer of a closing with a sound table, and what it leaves
-pub record Judged (N : ℕ) (l : Lent) (h : Handed) (v : Verdict) (l′ : Lent) : Type 0 where
-  pub answers : v ≡ judge N (nodes (l .table) (l .used)) h (l .types)
-  pub leaves : l′ ≡ cond (eqb (refusal N (nodes (l .table) (l .used)) h (l .types)) taken)
-      (leftBy N (l .active) (filled (nodes (l .table) (l .used)) h) (l .types))
-      l
+-- the facts after the fill: "Fill stays."
+abbrev pub factsAfter : Held → Handed → List Node
+factsAfter t h = filled (factsIn t) h
 
--- the answer, and what is left. (`one-outcome`: there is one outcome only.)
-pub data Outcome (l : Lent) (h : Handed) (v : Verdict) (l′ : Lent) : Type 0 where
-  -- 1. "Is the fact table a multiple of 11 with 1 to 16,384 records?"
-  unfit : ((N : ℕ) → Counted (length (l .table)) N → ⊥) → v ≡ refused countQuestion → l′ ≡ l → Outcome l h v l′
-  -- 2. "Is it sound?"; that a decoder active above 1 is refused with it is ours
-  unsound : (N : ℕ) → Counted (length (l .table)) N → (Sound (l .table) (l .used) N → l .active ≤ 1 → ⊥) → v ≡ refused soundQuestion → l′ ≡ l → Outcome l h v l′
-  -- 3, 9 and 8
-  judged : (N : ℕ) → Counted (length (l .table)) N → Sound (l .table) (l .used) N → l .active ≤ 1 → Judged N l h v l′ → Outcome l h v l′
+-- the answer for the facts s, which are those after the fill
+abbrev pub answerBy : ℕ → List Node → Verdict
+answerBy number s = cond (eqb number taken) (answerOf s) (refused number)
+
+-- the answer, and what is left of the head, the table and the type slice; refused, all is as it was. (`one-outcome`:
+-- there is one outcome only.)
+pub record Outcome (t : Held) (types : List ℕ) (h : Handed) (v : Verdict) (t′ : Held) (types′ : List ℕ) : Type 0 where
+  pub number : ℕ
+  pub asked : FirstNo (questions t h types) number
+  pub answers : v ≡ answerBy number (factsAfter t h)
+  pub leaves : t′ ≡ cond (eqb number taken) (holding (recordsIn t) (t .head .active) (factsAfter t h)) t
+  pub writes : types′ ≡ cond (eqb number taken) (typesAfter (factsAfter t h) types) types

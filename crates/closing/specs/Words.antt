@@ -1,5 +1,6 @@
--- The words of the arguments' head (the first words of the call data behind the selector, one for each argument) that a closing fills: "`direct_min_calldata_words`, overridden by `dense_min_calldata_words`, fills the head as in the tail." Assumes nothing:
--- these are definitions.
+-- The words of the arguments' head (the first words of the call data behind the selector, one for each argument) that a
+-- closing fills: "`direct_min_calldata_words`, overridden by `dense_min_calldata_words`, fills the head as in the
+-- tail." Assumes nothing: these are definitions.
 use Prim.Native.Nat.{ℕ, zero, suc}
 use mathlib.Core.Bool.{cond, _&&_}
 use mathlib.Core.List.{List, [], _∷_}
@@ -17,11 +18,15 @@ use Rattle.list.specs.Seen.{childrenIn, isEmpty}
 use Rattle.closing.specs.declared.Packed.{Packed}
 use Rattle.closing.specs.declared.Packed.the-variants.{Absent, Word}
 
--- "code, start pc and an optional packed word": where the function begins in the code, and the word on top of the stack there, which may hold a checked length
+-- "code, start pc and an optional packed word": where the function begins in the code, and the word on top of the stack
+-- there, which may hold a checked length
 pub record Handed : Type 0 where
   pub code : List ℕ
   pub start : ℕ
   pub packed : Packed
+
+abbrev pub hand : List ℕ → ℕ → Packed → Handed
+hand code start packed = record { code = code; start = start; packed = packed }
 
 -- what the packed word says, if there is one
 abbrev pub packedWords : List ℕ → ℕ → Packed → Words
@@ -51,8 +56,8 @@ abbrev pub oneLess : ℕ → Words
 oneLess zero = Nothing
 oneLess (suc w) = Count w
 
--- the words of the head, from the least length: all of them with no dynamic argument; one less with one alone, an array with no child, whose length is a word
--- behind the head; nothing otherwise
+-- the words of the head, from the least length: all of them with no dynamic argument; one less with one alone, an array
+-- with no child, whose length is a word behind the head; nothing otherwise
 abbrev pub headBy : List Node → ℕ → List ℕ → Words
 headBy s w [] = Count w
 headBy s w (r ∷ []) = cond (eqb (nodeOf s r .kind) kindArray && isEmpty (childrenIn s r)) (oneLess w) Nothing

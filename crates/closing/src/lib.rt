@@ -1,4 +1,5 @@
-// The closing: refused by one of the questions 1, 2, 3, 9 and 8, in this order, with everything left unchanged; or none, over, or granted with its list.
+// The closing: refused by one of the questions 1, 2, 3, 9 and 8, in this order, with everything left unchanged; or
+// none, over, or granted with its list.
 mod answer;
 mod arrive;
 mod words;
@@ -6,6 +7,7 @@ mod words;
 pub use arrive::close;
 pub use arrive::number_of;
 use head::Head;
+use limits::Refusal;
 use word::U256;
 
 // "an optional packed word".
@@ -23,11 +25,7 @@ pub struct Granted {
 
 // The question that was answered with no, or what is said of the list. Nothing is the paper's "none".
 pub enum Closing {
-    NoRecords,
-    Unsound,
-    LongCode,
-    ShortTypes,
-    NoRoom,
+    Refused(Refusal),
     Nothing,
     Over,
     Granted(Granted),

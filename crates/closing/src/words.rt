@@ -7,7 +7,7 @@ ghost use Rattle.limits.specs.Limits.{kindArray, argumentWordsMax};
 ghost use Rattle.facts.specs.State.{nodes, nodeOf};
 ghost use Rattle.paths.specs.Shape.{Shaped};
 ghost use Rattle.list.specs.Seen.{childrenIn, isEmpty};
-ghost use Rattle.closing.specs.Words.{packedWords, minWords, dynamicArgs, headBy, fillCount, fillWords};
+ghost use Rattle.closing.specs.Words.{hand, packedWords, minWords, dynamicArgs, headBy, fillCount, fillWords};
 ghost use Rattle.closing.specs.Dynamics.{summary};
 ghost use Rattle.code.specs.declared.Words.the-variants.{Count};
 use crate::Dynamics;
@@ -36,7 +36,7 @@ fn packed_words(code: &[u8], start: u32, packed: Packed) -> Words
 
 // The least length of the call data in words: the packed reading overrides the direct one.
 fn min_words(code: &[u8], start: u32, packed: Packed) -> Words
-    ensures { λ w. ⌜ w ≡ minWords (record { code = now (code .entry); start = start; packed = packed }) ⌝ }
+    ensures { λ w. ⌜ w ≡ minWords (hand (now (code .entry)) start packed) ⌝ }
 {
     let Words::Count(words) = packed_words(code, start, packed) else {
         return direct_min_calldata_words(code, start);
@@ -69,7 +69,8 @@ fn dynamic_args(table: &[u32], n: u32, used: u32) -> Dynamics
 fn is_bare_array(table: &[u32], n: u32, used: u32, r: u32) -> bool
     requires { ⌜ Shaped (now table) used n ⌝ }
     requires { ⌜ (1 ≤ r) × (r ≤ used) ⌝ }
-    ensures { λ b. ⌜ b ≡ eqb (nodeOf (nodes (now (table .entry)) used) r .kind) kindArray && isEmpty (childrenIn (nodes (now (table .entry)) used) r) ⌝ }
+    ensures { λ b. ⌜ b ≡ eqb (nodeOf (nodes (now (table .entry)) used) r .kind) kindArray
+        && isEmpty (childrenIn (nodes (now (table .entry)) used) r) ⌝ }
 {
     let array = field(table, r, KIND) == KIND_ARRAY;
     let childless = is_childless(table, n, used, r);
@@ -90,7 +91,8 @@ fn limited(words: u32) -> u32
 // How many words are filled, of a least length of so many.
 fn head_words(table: &[u32], n: u32, used: u32, words: u32) -> u32
     requires { ⌜ Shaped (now table) used n ⌝ }
-    ensures { λ w. ⌜ (w ≡ fillCount (headBy (nodes (now (table .entry)) used) words (dynamicArgs (nodes (now (table .entry)) used)))) × (w ≤ argumentWordsMax) ⌝ }
+    ensures { λ w. ⌜ (w ≡ fillCount (headBy (nodes (now (table .entry)) used) words
+        (dynamicArgs (nodes (now (table .entry)) used)))) × (w ≤ argumentWordsMax) ⌝ }
 {
     let dynamics = dynamic_args(table, n, used);
     if dynamics.count == 0 {
@@ -111,7 +113,8 @@ fn head_words(table: &[u32], n: u32, used: u32, words: u32) -> u32
 // How many words of the head the closing fills.
 pub fn fill_words(table: &[u32], n: u32, used: u32, code: &[u8], start: u32, packed: Packed) -> u32
     requires { ⌜ Shaped (now table) used n ⌝ }
-    ensures { λ w. ⌜ (w ≡ fillWords (nodes (now (table .entry)) used) (record { code = now (code .entry); start = start; packed = packed })) × (w ≤ argumentWordsMax) ⌝ }
+    ensures { λ w. ⌜ (w ≡ fillWords (nodes (now (table .entry)) used) (hand (now (code .entry)) start packed))
+        × (w ≤ argumentWordsMax) ⌝ }
 {
     let Words::Count(words) = min_words(code, start, packed) else {
         return 0;

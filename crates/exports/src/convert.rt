@@ -1,22 +1,16 @@
 // Answers as numbers, and the packed word from numbers.
 ghost use mathlib.Core.Path.{_≡_};
 ghost use Rattle.closing.specs.Answer.{verdictOf};
-ghost use Rattle.closing.specs.Call.{lend};
-ghost use Rattle.text.specs.Call.{numberOf, lengthOf};
-ghost use Rattle.exports.specs.Numbers.{saying, answered, packedOf, ClosingOutcome};
+ghost use Rattle.head.specs.Held.{held};
+ghost use Rattle.text.specs.Call.{lengthOf};
+ghost use Rattle.exports.specs.Numbers.{saying, answered, packedOf, handNumbers, ClosingOutcome};
 use crate::Answered;
 use crate::Ended;
 use closing::Closing;
 use closing::Packed;
 use head::Head;
-use limits::questions::CODE_QUESTION;
-use limits::questions::COUNT_QUESTION;
-use limits::questions::ROOM_QUESTION;
-use limits::questions::SLICE_QUESTION;
-use limits::questions::SOUND_QUESTION;
+use limits::number_of;
 use limits::questions::TAKEN;
-use limits::questions::TEXT_QUESTION;
-use limits::questions::TYPES_QUESTION;
 use text::TextAnswer;
 use word::numbers::from_numbers;
 
@@ -29,25 +23,13 @@ const OVER: u32 = 2;
 
 const GRANTED: u32 = 3;
 
-// The text call's number.
-pub fn text_number(answer: TextAnswer) -> u32
-    ensures { λ r. ⌜ r ≡ numberOf answer ⌝ }
-{
-    match answer {
-        TextAnswer::Written(n) => TAKEN,
-        TextAnswer::NotTypes => TYPES_QUESTION,
-        TextAnswer::TooLong => TEXT_QUESTION,
-    }
-}
-
 // The text's length.
 pub fn text_length(answer: TextAnswer) -> usize
     ensures { λ r. ⌜ r ≡ lengthOf answer ⌝ }
 {
     match answer {
         TextAnswer::Written(n) => n,
-        TextAnswer::NotTypes => 0,
-        TextAnswer::TooLong => 0,
+        TextAnswer::Refused(refusal) => 0,
     }
 }
 
@@ -77,11 +59,7 @@ fn answered(answer: Closing) -> Answered
             left: granted.left,
             length: granted.length,
         },
-        Closing::NoRecords => without_list(COUNT_QUESTION, REFUSED),
-        Closing::Unsound => without_list(SOUND_QUESTION, REFUSED),
-        Closing::LongCode => without_list(CODE_QUESTION, REFUSED),
-        Closing::NoRoom => without_list(ROOM_QUESTION, REFUSED),
-        Closing::ShortTypes => without_list(SLICE_QUESTION, REFUSED),
+        Closing::Refused(refusal) => without_list(number_of(refusal), REFUSED),
     }
 }
 
@@ -105,7 +83,9 @@ pub fn close(
     word: &[u32; 8],
     types: &mut [u16],
 ) -> Ended
-    ensures { λ r. ⌜ ClosingOutcome (lend (head .used) (head .active) (now (table .entry)) (now (types .entry))) (now (code .entry)) start flag (now (word .entry)) (r .said) (lend (r .head .used) (r .head .active) (now (table .exit)) (now (types .exit))) ⌝ }
+    ensures { λ r. ⌜ ClosingOutcome (held head (now (table .entry))) (now (types .entry))
+        (handNumbers (now (code .entry)) start flag (now (word .entry))) (r .said)
+        (held (r .head) (now (table .exit))) (now (types .exit)) ⌝ }
 {
     let packed = read_packed(flag, word);
     let closed = closing::close(head, table, code, start, packed, types);

@@ -1,23 +1,21 @@
-// Functions for a host in Rust or C: the fresh call, the step, the closing and the text call, on numbers and slices alone. Each only converts, and calls the
-// core's own. None asks anything of its numbers. What it returns is document 01's number of the refusal, 0 for a call that is taken; a refused call leaves
-// the head and the lent slices unchanged. `argcol.h` beside src/ declares them for C: a slice is a pointer and a length there.
+// Functions for a host in Rust or C: the fresh call, the step, the closing and the text call, on numbers and slices
+// alone. Each only converts, and calls the core's own. None asks anything of its numbers. What it returns is document
+// 01's number of the refusal, 0 for a call that is taken; a refused call leaves the head and the lent slices unchanged.
+// `argcol.h` beside src/ declares them for C: a slice is a pointer and a length there.
 mod convert;
 
-ghost use Rattle.fresh.specs.Call.{lend as lendFresh};
-ghost use Rattle.step.specs.Call.{Outcome as StepOutcome, lend as lendStep};
-ghost use Rattle.closing.specs.Call.{lend as lendTypes};
+ghost use Rattle.step.specs.Call.{Outcome as StepOutcome, lend};
 ghost use Rattle.text.specs.Call.{Outcome as TextOutcome};
-ghost use Rattle.exports.specs.Numbers.{FreshOutcome, ClosingOutcome, saying};
+ghost use Rattle.exports.specs.Numbers.{gather, handNumbers, FreshOutcome, ClosingOutcome, saying};
 use convert::close;
 use convert::text_length;
-use convert::text_number;
 use fresh::fresh;
 use head::Head;
-use step::number_of;
 use step::step;
 use text::text;
 
-// A closing's answer in numbers. Kind is 0 for a refusal, 1 for none, 2 for over, 3 for granted; the values are 0 unless it is granted.
+// A closing's answer in numbers. Kind is 0 for a refusal, 1 for none, 2 for over, 3 for granted; the values are 0
+// unless it is granted.
 pub struct Answered {
     pub number: u32,
     pub kind: u32,
@@ -35,7 +33,8 @@ pub struct Ended {
 // The fresh call.
 #[no_mangle]
 pub extern "C" fn argcol_fresh(used: &mut u32, active: &mut u32, table: &mut [u32]) -> u32
-    ensures { λ r. ⌜ FreshOutcome (lendFresh (now (used .entry)) (now (active .entry)) (now (table .entry))) r (lendFresh (now (used .exit)) (now (active .exit)) (now (table .exit))) ⌝ }
+    ensures { λ r. ⌜ FreshOutcome (gather (now (used .entry)) (now (active .entry)) (now (table .entry))) r
+        (gather (now (used .exit)) (now (active .exit)) (now (table .exit))) ⌝ }
 {
     let head = Head {
         used: *used,
@@ -59,7 +58,12 @@ pub extern "C" fn argcol_step(
     memory: &mut [u32],
     numbers: &[u32],
 ) -> u32
-    ensures { λ r. ⌜ StepOutcome (lendStep (now (used .entry)) (now (active .entry)) (now (table .entry)) (now (stack .entry)) (now (memory .entry))) (now (code .entry)) (now (numbers .entry)) r (lendStep (now (used .exit)) (now (active .exit)) (now (table .exit)) (now (stack .exit)) (now (memory .exit))) ⌝ }
+    ensures { λ r. ⌜ StepOutcome
+        (lend (gather (now (used .entry)) (now (active .entry)) (now (table .entry)))
+        (now (stack .entry)) (now (memory .entry)))
+        (now (code .entry)) (now (numbers .entry)) r
+        (lend (gather (now (used .exit)) (now (active .exit)) (now (table .exit)))
+        (now (stack .exit)) (now (memory .exit))) ⌝ }
 {
     let head = Head {
         used: *used,
@@ -69,10 +73,11 @@ pub extern "C" fn argcol_step(
     *used = stepped.head.used;
     *active = stepped.head.active;
     let answer = stepped.answer;
-    number_of(answer)
+    step::number_of(answer)
 }
 
-// The closing. The packed word is there unless flag is 0. The last four are the answer's values, which every call writes.
+// The closing. The packed word is there unless flag is 0. The last four are the answer's values, which every call
+// writes.
 #[no_mangle]
 pub extern "C" fn argcol_closing(
     used: &mut u32,
@@ -88,7 +93,10 @@ pub extern "C" fn argcol_closing(
     left: &mut u32,
     length: &mut u32,
 ) -> u32
-    ensures { λ r. ⌜ ClosingOutcome (lendTypes (now (used .entry)) (now (active .entry)) (now (table .entry)) (now (types .entry))) (now (code .entry)) start flag (now (word .entry)) (saying r (now (kind .exit)) (now (entries .exit)) (now (left .exit)) (now (length .exit))) (lendTypes (now (used .exit)) (now (active .exit)) (now (table .exit)) (now (types .exit))) ⌝ }
+    ensures { λ r. ⌜ ClosingOutcome (gather (now (used .entry)) (now (active .entry)) (now (table .entry)))
+        (now (types .entry)) (handNumbers (now (code .entry)) start flag (now (word .entry)))
+        (saying r (now (kind .exit)) (now (entries .exit)) (now (left .exit)) (now (length .exit)))
+        (gather (now (used .exit)) (now (active .exit)) (now (table .exit))) (now (types .exit)) ⌝ }
 {
     let head = Head {
         used: *used,
@@ -111,5 +119,5 @@ pub extern "C" fn argcol_text(codes: &[u16], out: &mut [u8], length: &mut usize)
 {
     let answer = text(codes, out);
     *length = text_length(answer);
-    text_number(answer)
+    text::number_of(answer)
 }

@@ -1,35 +1,51 @@
 -- A fresh call's outcome, by question 1's answer. Assumes nothing.
 use Prim.Native.Nat.{ℕ}
-use mathlib.Core.Path.{_≡_, refl, sym, ap, _∙_}
+use mathlib.Core.Path.{_≡_, refl, sym, ap, subst, _∙_}
+use mathlib.Core.Bool.{cond}
+use mathlib.Core.Logic.{inl, inr}
 use mathlib.Core.List.{List, [], _∷_}
 use native.Mathlib.Omega.{arith}
+use lib.Dec.{eqb}
 use lib.ListN.{length}
+use Rattle.limits.specs.Questions.{taken}
 use Rattle.facts.specs.declared.Records.{Records}
 use Rattle.facts.specs.declared.Records.the-variants.{Count, Unfit}
 use Rattle.facts.specs.Count.{recordCount, Counted}
 use Rattle.facts.specs.Fresh.{freshTable, numberOf, countOf}
 use Rattle.facts.specs.State.{encode, root}
-use Rattle.facts.proofs.Counts.{count-counted, counted-count, count-once}
-use Rattle.fresh.specs.Call.{Lent, lend, Outcome, unfit, opened}
+use Rattle.facts.proofs.Counts.{NoCount, count-counted, counted-count}
+use Rattle.head.specs.declared.Head.{Head}
+use Rattle.head.specs.Held.{Held, held, recordsIn}
+use Rattle.head.proofs.Asking.{one-no}
+use Rattle.fresh.specs.Call.{questions, opened, Outcome}
 
-module _ (l : Lent) (t′ : List ℕ) (r : Records) (e : r ≡ recordCount (length (l .table))) (q : t′ ≡ freshTable r (l .table)) where
-  pub taken-so : (N : ℕ) → r ≡ Count N → Outcome l (numberOf (Count N)) (countOf (Count N)) (lend 1 1 t′)
+module _ (head : Head) (t t′ : List ℕ) (r : Records) (e : r ≡ recordCount (length t)) (q : t′ ≡ freshTable r t) where
+  pub taken-so : (N : ℕ) → r ≡ Count N
+      → Outcome (held head t) (numberOf (Count N)) (countOf (Count N)) (held (record { used = 1; active = 1 }) t′)
   taken-so N d =
-      opened (count-counted (length (l .table)) N (sym e ∙ d)) refl (ap (λ (t : List ℕ). lend 1 1 t) (q ∙ ap (λ (x : Records). freshTable x (l .table)) d))
+      let C = count-counted (length t) N (sym e ∙ d) in
+      let c = C .is in
+      let is : N ≡ recordsIn (held head t) = omega arith in
+      let table : t′ ≡ encode N (root ∷ []) = q ∙ ap (λ (x : Records). freshTable x t) d in
+      record {
+        asked = inr (subst (Counted (length t)) is C, refl);
+        counts = is;
+        leaves = ap (held (record { used = 1; active = 1 })) (table ∙ ap (λ (n : ℕ). encode n (root ∷ [])) is);
+      }
 
-  pub unfit-so : r ≡ Unfit → Outcome l (numberOf Unfit) (countOf Unfit) (lend (l .used) (l .active) t′)
-  unfit-so d =
-      unfit
-      (λ N C. let z = ap numberOf (sym (counted-count (length (l .table)) N C) ∙ sym e ∙ d) in omega arith)
-      refl
-      refl
-      (ap (λ (t : List ℕ). lend (l .used) (l .active) t) (q ∙ ap (λ (x : Records). freshTable x (l .table)) d))
+  pub unfit-so : r ≡ Unfit → Outcome (held head t) (numberOf Unfit) (countOf Unfit) (held head t′)
+  unfit-so d = record {
+    asked = inl ((λ C. subst (λ (z : Records). NoCount z) (sym d ∙ e ∙ counted-count (length t) _ C) tt), refl);
+    counts = refl;
+    leaves = ap (held head) (q ∙ ap (λ (x : Records). freshTable x t) d);
+  }
 
 -- a fresh call has one outcome for one input: number, record count, head and table
-pub one-outcome : (l : Lent) (n m a b : ℕ) (l₁ l₂ : Lent) → Outcome l n a l₁ → Outcome l m b l₂ → (n ≡ m) × (a ≡ b) × (l₁ ≡ l₂)
-one-outcome l n m a b l₁ l₂ (unfit f e c q) (unfit g d k p) = (e ∙ sym d, c ∙ sym k, q ∙ sym p)
-one-outcome l n m a b l₁ l₂ (unfit f e c q) (opened D d p) = absurd (f b D)
-one-outcome l n m a b l₁ l₂ (opened C e q) (unfit g d k p) = absurd (g a C)
-one-outcome l n m a b l₁ l₂ (opened C e q) (opened D d p) =
-    let same = count-once (length (l .table)) a b C D in
-    (e ∙ sym d, same, q ∙ ap (λ (k : ℕ). lend 1 1 (encode k (root ∷ []))) same ∙ sym p)
+pub one-outcome : (h : Held) (n m a b : ℕ) (h₁ h₂ : Held) → Outcome h n a h₁ → Outcome h m b h₂
+    → (n ≡ m) × (a ≡ b) × (h₁ ≡ h₂)
+one-outcome h n m a b h₁ h₂ O P =
+    let e = one-no (questions h) n m (O .asked) (P .asked) in (
+      e,
+      O .counts ∙ ap (λ (k : ℕ). cond (eqb k taken) (recordsIn h) 0) e ∙ sym (P .counts),
+      O .leaves ∙ ap (λ (k : ℕ). cond (eqb k taken) (opened (recordsIn h)) h) e ∙ sym (P .leaves),
+    )

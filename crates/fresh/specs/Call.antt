@@ -1,25 +1,26 @@
--- "A fresh call takes question 1 and leaves a lone root, the other records zero, active.": what it answers and leaves, for any numbers at all. Assumes nothing:
--- these are definitions.
+-- "A fresh call takes question 1 and leaves a lone root, the other records zero, active.": what it answers and leaves,
+-- for any numbers at all. Assumes nothing: these are definitions.
 use Prim.Native.Nat.{ℕ}
 use mathlib.Core.Path.{_≡_}
-use mathlib.Core.List.{List, [], _∷_}
-use lib.ListN.{length}
+use mathlib.Core.Bool.{cond}
+use mathlib.Core.List.{[], _∷_}
+use lib.Dec.{eqb}
 use Rattle.limits.specs.Questions.{taken, countQuestion}
-use Rattle.facts.specs.Count.{Counted}
-use Rattle.facts.specs.State.{encode, root}
+use Rattle.facts.specs.State.{root}
+use Rattle.head.specs.Held.{Held, recordsIn, holding, HasRecords}
+use Rattle.head.specs.Asked.{Questions, tests, ask, FirstNo}
 
--- what goes along with the call: the head's two numbers and the table
-pub record Lent : Type 0 where
-  pub used : ℕ
-  pub active : ℕ
-  pub table : List ℕ
+-- "takes question 1", and no other
+abbrev pub questions : Held → Questions
+questions h = ask (HasRecords h) countQuestion (tests [])
 
-abbrev pub lend : ℕ → ℕ → List ℕ → Lent
-lend used active table = record { used = used; active = active; table = table }
+-- "leaves a lone root, the other records zero, active", in a table of N records
+abbrev pub opened : ℕ → Held
+opened N = holding N 1 (root ∷ [])
 
--- the number of the answer and the record count, and what is left. (`one-outcome`: there is one outcome only.)
-pub data Outcome (l : Lent) (number count : ℕ) (l′ : Lent) : Type 0 where
-  -- 1. "Is the fact table a multiple of 11 with 1 to 16,384 records?"; refused, all is as it was
-  unfit : ((N : ℕ) → Counted (length (l .table)) N → ⊥) → number ≡ countQuestion → count ≡ 0 → l′ ≡ l → Outcome l number count l′
-  -- "leaves a lone root, the other records zero, active"
-  opened : Counted (length (l .table)) count → number ≡ taken → l′ ≡ lend 1 1 (encode count (root ∷ [])) → Outcome l number count l′
+-- the number of the answer and the record count, and what is left; refused, all is as it was. (`one-outcome`: there is
+-- one outcome only.)
+pub record Outcome (h : Held) (number count : ℕ) (h′ : Held) : Type 0 where
+  pub asked : FirstNo (questions h) number
+  pub counts : count ≡ cond (eqb number taken) (recordsIn h) 0
+  pub leaves : h′ ≡ cond (eqb number taken) (opened (recordsIn h)) h

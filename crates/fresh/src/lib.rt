@@ -1,6 +1,7 @@
 // The fresh call: question 1, and then a lone root in the table and the head that goes along with it.
 ghost use Rattle.facts.specs.Fresh.{numberOf, countOf};
-ghost use Rattle.fresh.specs.Call.{Outcome, lend};
+ghost use Rattle.head.specs.Held.{held};
+ghost use Rattle.fresh.specs.Call.{Outcome};
 use facts::Records;
 use head::Head;
 
@@ -10,9 +11,11 @@ pub struct Opened {
     pub answer: Records,
 }
 
-// Leaves a lone root, the other records zero, and the decoder active; or refuses a table that question 1 doesn't take, and leaves all as it was.
+// Leaves a lone root, the other records zero, and the decoder active; or refuses a table that question 1 doesn't take,
+// and leaves all as it was.
 pub fn fresh(head: Head, table: &mut [u32]) -> Opened
-    ensures { λ r. ⌜ Outcome (lend (head .used) (head .active) (now (table .entry))) (numberOf (r .answer)) (countOf (r .answer)) (lend (r .head .used) (r .head .active) (now (table .exit))) ⌝ }
+    ensures { λ r. ⌜ Outcome (held head (now (table .entry))) (numberOf (r .answer)) (countOf (r .answer))
+        (held (r .head) (now (table .exit))) ⌝ }
 {
     let records = facts::fresh(table);
     let Records::Count(n) = records else {

@@ -1,21 +1,19 @@
--- `one-outcome`: the bytes of a group have one outcome for one input: what is said of them, the head and the table. Assumes nothing.
+-- `one-outcome`: the bytes of a group have one outcome for one input: what is said of them, the head and the table.
+-- Assumes nothing.
 use Prim.Native.Nat.{ℕ}
 use mathlib.Core.Path.{_≡_, sym, ap, _∙_}
 use mathlib.Core.List.{List}
+use Rattle.head.specs.Held.{Held}
 use Rattle.step.specs.Call.{Lent, lend}
 use Rattle.step.proofs.Outcomes.{one-outcome as one-step}
 use Rattle.groups.specs.Group.{stepIn, stackIn, memoryIn}
-use Rattle.groups.specs.Call.{Held, Verdict, answered, Put, Outcome, not-group, step}
-
--- the parts of a group that its step leaves to the next one
-abbrev held : Lent → Held
-held l = record { used = l .used; active = l .active; table = l .table }
+use Rattle.groups.specs.Call.{Verdict, answered, Put, Outcome, not-group, step}
 
 module _ (h : Held) (code bs : List ℕ) where
   put-once : (n n′ : ℕ) (h₁ h₂ : Held) → Put h code bs n h₁ → Put h code bs n′ h₂ → (n ≡ n′) × (h₁ ≡ h₂)
   put-once n n′ h₁ h₂ p q =
-      let same = one-step (lend (h .used) (h .active) (h .table) (stackIn bs) (memoryIn bs)) code (stepIn bs) n n′ _ _ (p .outcome) (q .outcome) in
-      (same .0, ap held (same .1))
+      let same = one-step (lend h (stackIn bs) (memoryIn bs)) code (stepIn bs) n n′ _ _ (p .outcome) (q .outcome) in
+      (same .0, ap (λ (l : Lent). l .held) (same .1))
 
   pub one-outcome : (v v′ : Verdict) (h₁ h₂ : Held) → Outcome h code bs v h₁ → Outcome h code bs v′ h₂ → (v ≡ v′) × (h₁ ≡ h₂)
   one-outcome v v′ h₁ h₂ (not-group f e q) (not-group g d p) = (e ∙ sym d, q ∙ sym p)

@@ -1,4 +1,5 @@
-// A group of the trace printer's input, on slices: are its bytes a whole one, and the step call with its parts. Nothing here reads or writes a file.
+// A group of the trace printer's input, on slices: are its bytes a whole one, and the step call with its parts. Nothing
+// here reads or writes a file.
 mod take;
 mod whole;
 

@@ -1,4 +1,5 @@
-// The step of a group: its numbers are read straight from the bytes, the slots and entries to room of its own, and the step call is made.
+// The step of a group: its numbers are read straight from the bytes, the slots and entries to room of its own, and the
+// step call is made.
 ghost use mathlib.Core.Path.{_≡_};
 ghost use Prim.Native.Nat.{_*_};
 ghost use lib.ListN.{length};
@@ -7,7 +8,8 @@ ghost use Rattle.limits.specs.Layout.{slotWidth, entryWidth};
 ghost use Rattle.step.specs.Call.{numberOf};
 ghost use Rattle.trace.specs.Group.{slotNumbers, entryNumbers};
 ghost use Rattle.groups.specs.Group.{IsGroup};
-ghost use Rattle.groups.specs.Call.{hold, verdictOf, heldAfter, Put, Outcome};
+ghost use Rattle.head.specs.Held.{held};
+ghost use Rattle.groups.specs.Call.{verdictOf, heldAfter, Put, Outcome};
 use crate::GroupAnswer;
 use crate::whole::is_group;
 use head::Head;
@@ -39,7 +41,8 @@ fn put_step(
 ) -> Stepped
     requires { ⌜ IsGroup (now bytes) ⌝ }
     requires { ⌜ (length (now stack) ≡ slotNumbers (now bytes)) × (length (now memory) ≡ entryNumbers (now bytes)) ⌝ }
-    ensures { λ r. ⌜ Put (hold (head .used) (head .active) (now (table .entry))) (now (code .entry)) (now (bytes .entry)) (numberOf (r .answer)) (hold (r .head .used) (r .head .active) (now (table .exit))) ⌝ }
+    ensures { λ r. ⌜ Put (held head (now (table .entry))) (now (code .entry)) (now (bytes .entry))
+        (numberOf (r .answer)) (held (r .head) (now (table .exit))) ⌝ }
 {
     let mut numbers = [0u32; STEP_WIDTH];
     let behind = FRONT_BYTES + stack.len() * NUMBER_BYTES;
@@ -59,8 +62,10 @@ fn put_sized(
     memory: &mut [u32],
 ) -> Stepped
     requires { ⌜ IsGroup (now bytes) ⌝ }
-    requires { ⌜ (length (now stack) ≡ traceSlotsMax * slotWidth) × (length (now memory) ≡ traceEntriesMax * entryWidth) ⌝ }
-    ensures { λ r. ⌜ Put (hold (head .used) (head .active) (now (table .entry))) (now (code .entry)) (now (bytes .entry)) (numberOf (r .answer)) (hold (r .head .used) (r .head .active) (now (table .exit))) ⌝ }
+    requires { ⌜ (length (now stack) ≡ traceSlotsMax * slotWidth)
+        × (length (now memory) ≡ traceEntriesMax * entryWidth) ⌝ }
+    ensures { λ r. ⌜ Put (held head (now (table .entry))) (now (code .entry)) (now (bytes .entry))
+        (numberOf (r .answer)) (held (r .head) (now (table .exit))) ⌝ }
 {
     let s = slot_count(bytes) as usize * SLOT_WIDTH;
     let m = entry_count(bytes) as usize * ENTRY_WIDTH;
@@ -76,7 +81,8 @@ fn put_sized(
 
 // Takes the step of a group, if the bytes are a whole one; if they are not, nothing is changed.
 pub fn take_group(head: Head, table: &mut [u32], code: &[u8], bytes: &[u8]) -> GroupAnswer
-    ensures { λ r. ⌜ Outcome (hold (head .used) (head .active) (now (table .entry))) (now (code .entry)) (now (bytes .entry)) (verdictOf r) (heldAfter r (head .used) (head .active) (now (table .exit))) ⌝ }
+    ensures { λ r. ⌜ Outcome (held head (now (table .entry))) (now (code .entry)) (now (bytes .entry)) (verdictOf r)
+        (heldAfter r head (now (table .exit))) ⌝ }
 {
     if !is_group(bytes) {
         return GroupAnswer::NotGroup;

@@ -1,4 +1,5 @@
--- What a thin function has at exit of the parameters that it has passed on to a callee for good: what the callee's contract says of their last values, as it
+-- What a thin function has at exit of the parameters that it has passed on to a callee for good: what the callee's
+-- contract says of their last values, as it
 -- stands (`denote.Exit`'s `left`).
 -- Assumes `Given`.
 use mathlib.Core.List.{List, [], _∷_}

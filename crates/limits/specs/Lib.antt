@@ -6,3 +6,4 @@ pub mod Input
 pub mod Layout
 pub mod Limits
 pub mod Questions
+pub mod Refusal

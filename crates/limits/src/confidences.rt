@@ -4,17 +4,17 @@ use crate::RANGE_CONFIDENCE;
 pub const BY_BYTE: u32 = 4;
 
 // AND and double ISZERO.
-pub const BY_CHECK: u32 = 5;
+pub const BY_AND_OR_ISZERO: u32 = 5;
 
 pub const BY_RANGE: u32 = RANGE_CONFIDENCE;
 
 // SDIV and SMOD.
-pub const BY_SIGN: u32 = 8;
+pub const BY_SDIV_OR_SMOD: u32 = 8;
 
 // A name that is bytes.
-pub const BY_COPY: u32 = 10;
+pub const BY_BYTES: u32 = 10;
 
-pub const BY_STORE: u32 = 12;
+pub const BY_MSTORE8: u32 = 12;
 
 // The rest.
-pub const BY_USE: u32 = 20;
+pub const BY_THE_REST: u32 = 20;

@@ -6,6 +6,10 @@ pub mod fields;
 pub mod input;
 pub mod layout;
 pub mod questions;
+mod refusal;
+
+pub use refusal::Refusal;
+pub use refusal::number_of;
 
 // Bytes of an EVM word. Keys, offsets and multipliers count in bytes, arguments and counts in words.
 pub const WORD_BYTES: u32 = 32;

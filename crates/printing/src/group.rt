@@ -1,4 +1,5 @@
-// A group is read whole, and then its step is put. Its front says how many bytes follow, so that no byte is read that is not the group's.
+// A group is read whole, and then its step is put. Its front says how many bytes follow, so that no byte is read that
+// is not the group's.
 ghost use mathlib.Core.Path.{_≡_};
 ghost use lib.ListN.{length};
 ghost use Rattle.trace.specs.Group.{groupRoom};

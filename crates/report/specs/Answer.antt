@@ -1,17 +1,17 @@
--- What is printed at the end: "a refused step or closing prints `refused N at S` (number, step from 1, 0 for closing) and stops; else `none`, `over` or the list."
--- Assumes nothing: these are definitions.
+-- What is printed at the end: "a refused step or closing prints `refused N at S` (number, step from 1, 0 for closing)
+-- and stops; else `none`, `over` or the list." Assumes nothing: these are definitions.
 use Prim.Native.Nat.{ℕ}
 use mathlib.Core.Path.{_≡_}
 use mathlib.Core.Bool.{true}
 use mathlib.Core.List.{List, [], _∷_, _++_}
 use Rattle.types.specs.Tree.{AbiTypes, count, allWellFormed}
 use Rattle.types.specs.Codes.{allCodes}
-use Rattle.facts.specs.State.{nodes}
+use Rattle.head.specs.Held.{Held}
 use Rattle.list.specs.Types.{listOf}
 use Rattle.trace.specs.Lines.{refusedLine, listLines, Stored}
 use Rattle.closing.specs.Answer.{Verdict, refused, none, over, granted}
-use Rattle.closing.specs.Words.{Handed, filled}
-use Rattle.closing.specs.Call.{Lent, Outcome}
+use Rattle.closing.specs.Words.{Handed}
+use Rattle.closing.specs.Call.{factsAfter, Outcome}
 
 -- "none"
 abbrev pub noneLine : List ℕ
@@ -37,11 +37,13 @@ HasEntries (granted entries left head) ts = count ts ≡ entries
 -- the text of an answer stands at the start of the slice, for any types whose codes the type slice begins with
 abbrev pub Reported : Verdict → List ℕ → List ℕ → ℕ → List ℕ → Type 0
 Reported v cs out r out′ =
-    (ts : AbiTypes) (rest : List ℕ) → allWellFormed ts ≡ true → cs ≡ allCodes ts ++ rest → HasEntries v ts → Stored (answerText v ts) out r out′
+    (ts : AbiTypes) (rest : List ℕ) → allWellFormed ts ≡ true → cs ≡ allCodes ts ++ rest → HasEntries v ts
+    → Stored (answerText v ts) out r out′
 
--- what a closing prints and leaves: its outcome, head and lent slices with it, and the text of that outcome and of the list of the facts after the fill. (`one-outcome` of the
--- closing: there is one outcome only.)
-pub record Printed (l : Lent) (h : Handed) (out : List ℕ) (r : ℕ) (out′ : List ℕ) (l′ : Lent) : Type 0 where
+-- what a closing prints and leaves: its outcome, head and lent slices with it, and the text of that outcome and of the
+-- list of the facts after the fill. (`one-outcome` of the closing: there is one outcome only.)
+pub record Printed (t : Held) (types : List ℕ) (h : Handed) (out : List ℕ) (r : ℕ) (out′ : List ℕ) (t′ : Held)
+    (types′ : List ℕ) : Type 0 where
   pub verdict : Verdict
-  pub outcome : Outcome l h verdict l′
-  pub stored : Stored (answerText verdict (listOf (filled (nodes (l .table) (l .used)) h))) out r out′
+  pub outcome : Outcome t types h verdict t′ types′
+  pub stored : Stored (answerText verdict (listOf (factsAfter t h))) out r out′

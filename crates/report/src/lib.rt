@@ -3,14 +3,15 @@ ghost use Prim.Native.Nat.{_≤_};
 ghost use lib.ListN.{length};
 ghost use Rattle.limits.specs.Limits.{codesMax};
 ghost use Rattle.trace.specs.Lines.{listRoom};
+ghost use Rattle.head.specs.Held.{held};
+ghost use Rattle.closing.specs.Words.{hand};
 ghost use Rattle.closing.specs.Answer.{verdictOf};
-ghost use Rattle.closing.specs.Call.{lend};
 ghost use Rattle.report.specs.Answer.{Reported, Printed};
 use closing::Closing;
 use closing::Packed;
 use closing::close;
-use closing::number_of;
 use head::Head;
+use limits::number_of;
 use spell::put_bytes;
 use trace::put_list;
 use trace::put_refused;
@@ -21,13 +22,13 @@ pub struct ClosedInto {
     pub length: usize,
 }
 
-// Stores the lines of an answer at the start of the slice: "else `none`, `over` or the list". Answers how many bytes they have.
+// Stores the lines of an answer at the start of the slice: "else `none`, `over` or the list". Answers how many bytes
+// they have.
 fn put_answer(answer: Closing, types: &[u16], out: &mut [u8]) -> usize
     requires { ⌜ (length (now types) ≤ codesMax) × (listRoom ≤ length (now out)) ⌝ }
     ensures { λ r. ⌜ Reported (verdictOf answer) (now (types .entry)) (now (out .entry)) r (now (out .exit)) ⌝ }
     ensures { λ r. ⌜ r ≤ length (now (out .exit)) ⌝ }
 {
-    let number = number_of(answer);
     match answer {
         Closing::Nothing => put_bytes(out, 0, b"none\n"),
         Closing::Over => put_bytes(out, 0, b"over\n"),
@@ -38,11 +39,7 @@ fn put_answer(answer: Closing, types: &[u16], out: &mut [u8]) -> usize
             granted.length,
             types,
         ),
-        Closing::NoRecords => put_refused(out, number, 0),
-        Closing::Unsound => put_refused(out, number, 0),
-        Closing::LongCode => put_refused(out, number, 0),
-        Closing::ShortTypes => put_refused(out, number, 0),
-        Closing::NoRoom => put_refused(out, number, 0),
+        Closing::Refused(refusal) => put_refused(out, number_of(refusal), 0),
     }
 }
 
@@ -57,7 +54,9 @@ pub fn close_into(
     out: &mut [u8],
 ) -> ClosedInto
     requires { ⌜ (length (now types) ≤ codesMax) × (listRoom ≤ length (now out)) ⌝ }
-    ensures { λ r. ⌜ Printed (lend (head .used) (head .active) (now (table .entry)) (now (types .entry))) (record { code = now (code .entry); start = start; packed = packed }) (now (out .entry)) (r .length) (now (out .exit)) (lend (r .head .used) (r .head .active) (now (table .exit)) (now (types .exit))) ⌝ }
+    ensures { λ r. ⌜ Printed (held head (now (table .entry))) (now (types .entry))
+        (hand (now (code .entry)) start packed) (now (out .entry)) (r .length) (now (out .exit))
+        (held (r .head) (now (table .exit))) (now (types .exit)) ⌝ }
     ensures { λ r. ⌜ r .length ≤ length (now (out .exit)) ⌝ }
 {
     let closed = close(head, table, code, start, packed, types);

@@ -1,5 +1,7 @@
--- The text as it is written, from the codes, left to right: what the private functions promise (`emit-is-text`: it is the text). A stack `st` holds what is
--- open, the innermost first: 0 for an array, for a tuple the number of its parts that are not written yet, the present one among them. Assumes nothing.
+-- The text as it is written, from the codes, left to right: what the private functions promise (`emit-is-text`: it is
+-- the text). A stack `st` holds what is
+-- open, the innermost first: 0 for an array, for a tuple the number of its parts that are not written yet, the present
+-- one among them. Assumes nothing.
 use Prim.Native.Nat.{ℕ, zero, suc, _+_, _-_}
 use mathlib.Core.Bool.{Bool, true, false, cond}
 use mathlib.Core.List.{List, [], _∷_, _++_}

@@ -29,7 +29,8 @@ ownBy Unknown c = 0
 unfoldable pub own : ℕ → ℕ
 own c = ownBy (kindOf c) c
 
--- a code where no type is wanted begins an entry, and a comma is counted before it; the first entry's too, which `measure` takes off
+-- a code where no type is wanted begins an entry, and a comma is counted before it; the first entry's too, which
+-- `measure` takes off
 abbrev pub commaBefore : ℕ → ℕ
 commaBefore wanted = cond (eqb wanted 0) 1 0
 

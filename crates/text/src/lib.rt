@@ -3,19 +3,20 @@ mod call;
 mod count;
 mod write;
 
+pub use call::number_of;
 pub use call::text;
+use limits::Refusal;
 
 // What the text call answers.
 pub enum TextAnswer {
     // The text's length; the text stands at the start of the slice.
     Written(usize),
-    // 10: the codes are no whole number of well-formed types, or more than 8,192.
-    NotTypes,
-    // 11: the text does not fit.
-    TooLong,
+    // 10: the codes are no whole number of well-formed types, or more than 8,192. 11: the text does not fit.
+    Refused(Refusal),
 }
 
-// The codes counted so far, from the left: how many types are still wanted, and how long the text is, each entry with a comma before it.
+// The codes counted so far, from the left: how many types are still wanted, and how long the text is, each entry with a
+// comma before it.
 pub struct Tally {
     pub wanted: usize,
     pub length: usize,

@@ -1,4 +1,5 @@
-// The text, written from the left. What is open is held in a lent slice: 0 for an array, for a tuple the number of parts not yet finished.
+// The text, written from the left. What is open is held in a lent slice: 0 for an array, for a tuple the number of
+// parts not yet finished.
 ghost use mathlib.Core.Path.{_≡_};
 ghost use mathlib.Core.Bool.{true};
 ghost use mathlib.Core.List.{[]};

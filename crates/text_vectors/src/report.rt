@@ -1,5 +1,6 @@
 // One line's end for an answer.
 use libc::STDOUT_FILENO;
+use limits::number_of;
 use text::TextAnswer;
 use vectors::put;
 use vectors::put_number;
@@ -65,12 +66,9 @@ fn put_text(out: &[u8], n: usize) {
 pub fn report(answer: TextAnswer, out: &[u8]) {
     match answer {
         TextAnswer::Written(n) => put_text(out, n),
-        TextAnswer::NotTypes => {
-            put(b" refused 10");
-            put_kept(out, 0);
-        }
-        TextAnswer::TooLong => {
-            put(b" refused 11");
+        TextAnswer::Refused(refusal) => {
+            put(b" refused");
+            put_number(number_of(refusal) as u64);
             put_kept(out, 0);
         }
     }

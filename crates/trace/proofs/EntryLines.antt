@@ -6,7 +6,12 @@ use Prim.Native.Nat.{ℕ, _+_, _-_, _^_, _≤_, _<_}
 use native.Mathlib.Omega.{arith}
 use lib.ListN.{length, take, drop, length-append, length-take, length-drop, drop-of-length-le}
 use lib.Seq.{sets, length-sets, sets-eq, take-all, drop-drop}
+use borrow.Author.Tests.{eqb-false}
 use borrow.Rule.Slice.PartMut.{midOf, postOf, putMid}
+use Rattle.limits.specs.Questions.{taken}
+use Rattle.limits.specs.declared.refusal.Refusal.{Refusal}
+use Rattle.limits.specs.Refusal.{numberOf as refusalNumber}
+use Rattle.limits.proofs.Refusals.{not-taken}
 use Rattle.types.specs.Tree.{AbiType, AbiTypes, nil, cons, wellFormed}
 use Rattle.types.specs.Codes.{codes, Passes}
 use Rattle.types.specs.Text.{listText}
@@ -14,7 +19,7 @@ use Rattle.types.proofs.Formed.{cons-formed}
 use Rattle.types.proofs.Unique.{only-types}
 use Rattle.text.specs.Call.{over, Outcome, written as text-written, no-types as text-no-types, too-long, numberOf, lengthOf}
 use Rattle.text.specs.declared.TextAnswer.{TextAnswer}
-use Rattle.text.specs.declared.TextAnswer.the-variants.{Written, NotTypes, TooLong}
+use Rattle.text.specs.declared.TextAnswer.the-variants.{Written, Refused}
 use Rattle.trace.specs.Lines.{decimal, blank, newline, entryLine, StoredAt, EntryStored, written, no-types}
 use Rattle.trace.proofs.Places.{decimal-short}
 use Rattle.trace.proofs.Pieces.{at-more}
@@ -49,21 +54,13 @@ module _ (k : ℕ) (cs out xs : List ℕ) (to a : ℕ) (small : k < 2 ^ 32) (roo
   text-short ts p = omega (arith, list-short ts, ap length (p .spells .spelt), p .most)
 
   module _ (answer : TextAnswer) (part′ : List ℕ) (o : Outcome cs part (numberOf answer) (lengthOf answer) part′) where
-    pub entry-no-types : (out′ : List ℕ) → answer ≡ NotTypes → EntryStored k cs out to to out′
-    entry-no-types out′ e = go (subst (λ (x : TextAnswer). Outcome cs part (numberOf x) (lengthOf x) part′) e o)
+    pub entry-refused : (out′ : List ℕ) (q : Refusal) → answer ≡ Refused q → EntryStored k cs out to to out′
+    entry-refused out′ q e = go (subst (λ (x : TextAnswer). Outcome cs part (numberOf x) (lengthOf x) part′) e o)
       where
-        go : Outcome cs part 10 0 part′ → EntryStored k cs out to to out′
-        go (text-written ts p h z n q) = absurd (omega arith)
-        go (text-no-types never z n q) = no-types never refl
-        go (too-long ts p h z n q) = absurd (omega arith)
-
-    pub entry-too-long : (out′ : List ℕ) → answer ≡ TooLong → EntryStored k cs out to to out′
-    entry-too-long out′ e = go (subst (λ (x : TextAnswer). Outcome cs part (numberOf x) (lengthOf x) part′) e o)
-      where
-        go : Outcome cs part 11 0 part′ → EntryStored k cs out to to out′
-        go (text-written ts p h z n q) = absurd (omega arith)
-        go (text-no-types never z n q) = absurd (omega arith)
-        go (too-long ts p h z n q) = absurd (omega (arith, text-short ts p, part-long, as-long, number-near))
+        go : Outcome cs part (refusalNumber q) 0 part′ → EntryStored k cs out to to out′
+        go (text-written ts p h z n w) = absurd (eqb-false (refusalNumber q) taken (not-taken q) z)
+        go (text-no-types never z n w) = no-types never refl
+        go (too-long ts p h z n w) = absurd (omega (arith, text-short ts p, part-long, as-long, number-near))
 
     module _ (n : ℕ) (e : answer ≡ Written n) where
       told : Outcome cs part 0 n part′

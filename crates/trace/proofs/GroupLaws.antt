@@ -1,4 +1,5 @@
--- What follows the front of a group: both answers of `group_rest`, room for the longest, and that it is said by the front alone. Assumes nothing.
+-- What follows the front of a group: both answers of `group_rest`, room for the longest, and that it is said by the
+-- front alone. Assumes nothing.
 use mathlib.Core.Path.{_≡_, refl, sym, ap, _∙_}
 use mathlib.Core.Bool.{Bool, true, false, not, cond}
 use mathlib.Core.List.{List, _++_}

@@ -1,4 +1,5 @@
--- "Here code is at most 24,576 bytes, slots and entries 256 each"; "Input that is .. over these sizes, has a packed flag above 1 .. prints `input refused`".
+-- "Here code is at most 24,576 bytes, slots and entries 256 each"; "Input that is .. over these sizes, has a packed
+-- flag above 1 .. prints `input refused`".
 -- Assumes nothing: these are definitions.
 use Prim.Native.Nat.{ℕ}
 use mathlib.Core.Bool.{Bool, _&&_}

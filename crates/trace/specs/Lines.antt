@@ -1,4 +1,5 @@
--- "a refused step or closing prints `refused N at S` (number, step from 1, 0 for closing)"; "`args 1 left 8189 head 32` and `0 uint256[]` (word number, type)".
+-- "a refused step or closing prints `refused N at S` (number, step from 1, 0 for closing)"; "`args 1 left 8189 head 32`
+-- and `0 uint256[]` (word number, type)".
 -- Each line ends with a newline. Assumes nothing: these are definitions.
 use Prim.Native.Nat.{ℕ, suc, _+_}
 use mathlib.Core.Bool.{true, cond}
@@ -86,12 +87,14 @@ Stored line out r out′ = (out′ ≡ sets out 0 line) × (r ≡ length line)
 abbrev pub StoredAt : List ℕ → List ℕ → ℕ → ℕ → List ℕ → Type 0
 StoredAt line out to r out′ = (out′ ≡ sets out to line) × (r ≡ to + length line)
 
--- what becomes of an entry's codes; where they are those of no types, which no granted list has, no line is counted, and what stands in the slice is free
+-- what becomes of an entry's codes; where they are those of no types, which no granted list has, no line is counted,
+-- and what stands in the slice is free
 pub data EntryStored (k : ℕ) (cs out : List ℕ) (to r : ℕ) (out′ : List ℕ) : Type 0 where
   written : (ts : AbiTypes) → Passes ts cs → StoredAt (entryLine k ts) out to r out′ → EntryStored k cs out to r out′
   no-types : ((ts : AbiTypes) → Passes ts cs → ⊥) → r ≡ to → EntryStored k cs out to r out′
 
--- what becomes of a list's codes: where they begin with those of as many well-formed types as there are entries, the lines of these; else the answer is free, but within the slice
+-- what becomes of a list's codes: where they begin with those of as many well-formed types as there are entries, the
+-- lines of these; else the answer is free, but within the slice
 -- (`outcome-text` of the report: a granted list's codes are such)
 abbrev pub EntriesStored : ℕ → List ℕ → List ℕ → ℕ → ℕ → List ℕ → Type 0
 EntriesStored entries cs out from r out′ =

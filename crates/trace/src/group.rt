@@ -1,4 +1,5 @@
-// The sizes of a group: "for each step its 59 numbers, slot count, entry count, slots, entries". Both counts are looked at before a slot is read.
+// The sizes of a group: "for each step its 59 numbers, slot count, entry count, slots, entries". Both counts are looked
+// at before a slot is read.
 ghost use mathlib.Core.Path.{_≡_};
 ghost use Prim.Native.Nat.{_≤_};
 ghost use lib.ListN.{length};

@@ -55,7 +55,8 @@ pub fn put_refused(out: &mut [u8], number: u32, step: u32) -> usize
     put_bytes(out, second, b"\n")
 }
 
-// An entry's number and the text of its type, from an index on; answers the index behind the line. Codes that are those of no types give no line.
+// An entry's number and the text of its type, from an index on; answers the index behind the line. Codes that are those
+// of no types give no line.
 pub fn put_entry(out: &mut [u8], to: usize, k: u32, codes: &[u16]) -> usize
     requires { ⌜ to + lineRoom ≤ length (now out) ⌝ }
     ensures { λ r. ⌜ EntryStored k (now (codes .entry)) (now (out .entry)) to r (now (out .exit)) ⌝ }
@@ -66,7 +67,6 @@ pub fn put_entry(out: &mut [u8], to: usize, k: u32, codes: &[u16]) -> usize
     let answer = text(codes, &mut out[from..]);
     match answer {
         TextAnswer::Written(n) => put_bytes(out, from + n, b"\n"),
-        TextAnswer::NotTypes => to,
-        TextAnswer::TooLong => to,
+        TextAnswer::Refused(refusal) => to,
     }
 }

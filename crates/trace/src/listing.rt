@@ -34,7 +34,8 @@ pub fn put_entries(out: &mut [u8], from: usize, entries: u32, codes: &[u16]) -> 
     to
 }
 
-// Stores the list at the start of the slice: the first line, as "args 1 left 8189 head 32", and the entries. Answers how many bytes it has.
+// Stores the list at the start of the slice: the first line, as "args 1 left 8189 head 32", and the entries. Answers
+// how many bytes it has.
 pub fn put_list(out: &mut [u8], entries: u32, left: u32, head: u32, codes: &[u16]) -> usize
     requires { ⌜ (length (now codes) ≤ codesMax) × (listRoom ≤ length (now out)) ⌝ }
     ensures { λ r. ⌜ ListStored entries left head (now (codes .entry)) (now (out .entry)) r (now (out .exit)) ⌝ }

@@ -5,7 +5,7 @@ use Rattle.exports.proofs.argcol_text.Statement.{statement}
 use Rattle.exports.proofs.argcol_text.Tie as tie
 
 returns : tie.Need-returns
-returns c = written-so _ _ _ _ _ _ _ (c .text-number .ensures) (c .before .text-length .ensures) (c .before .before .before .before .text .ensures)
+returns c = written-so _ _ _ _ _ _ _ (c .number-of .ensures) (c .before .text-length .ensures) (c .before .before .before .before .text .ensures)
 
 pub argcol-text-spec : {M : Type 1} → statement M
 argcol-text-spec =

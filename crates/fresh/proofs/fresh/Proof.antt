@@ -7,13 +7,13 @@ use Rattle.fresh.proofs.fresh.Tie as tie
 returns : tie.Need-returns
 returns c =
     let f = c .before .before .before .before .fresh in
-    unfit-so _ _ _ (f .ensures .0) (f .ensures .1) (c .enum-told .given .1)
+    unfit-so _ _ _ _ (f .ensures .0) (f .ensures .1) (c .enum-told .given .1)
 
 returns-2 : tie.Need-returns-2
 returns-2 c =
     let r = c .before in
     let f = r .before .before .before .before .fresh in
-    taken-so _ _ _ (f .ensures .0) (f .ensures .1) _ (r .records .given .1)
+    taken-so _ _ _ _ (f .ensures .0) (f .ensures .1) _ (r .records .given .1)
 
 pub fresh-spec : {M : Type 1} → statement M
 fresh-spec =

@@ -1,6 +1,9 @@
--- `lent::close` meets its contract: a walk of its MIR, by hand. The borrow of the head is opened; the head is copied out of its cell; the slices are passed
--- on to the core at their own lifetimes, shares and ghost names, for good; the head that the core returns is stored in the cell, and the borrow is closed
--- at it. Of the core the proof knows only that it meets its contract. What the core says of the slices' last lists is what the contract says of them
+-- `lent::close` meets its contract: a walk of its MIR, by hand. The borrow of the head is opened; the head is copied
+-- out of its cell; the slices are passed
+-- on to the core at their own lifetimes, shares and ghost names, for good; the head that the core returns is stored in
+-- the cell, and the borrow is closed
+-- at it. Of the core the proof knows only that it meets its contract. What the core says of the slices' last lists is
+-- what the contract says of them
 -- (`Left.antt`): it is never taken apart. Assumes nothing.
 use mathlib.Core.Path.{refl, ap, subst}
 use Prim.Native.Nat.{ℕ, _<_, _^_}
@@ -46,7 +49,9 @@ use denote.Triple.Walked.{says, Stays, stay-ref, walkOf, goes-ref, Walks, ends-a
 use Rattle.head.specs.declared.Head.{Head}
 use Rattle.closing.specs.declared.Closed.{Closed}
 use Rattle.closing.specs.declared.Packed.{Packed}
-use Rattle.closing.specs.Call.{Outcome, lend}
+use Rattle.closing.specs.Call.{Outcome}
+use Rattle.closing.specs.Words.{hand}
+use Rattle.head.specs.Held.{held}
 use Rattle.closing.specs.Answer.{verdictOf}
 use Rattle.closing.proofs.Packed as Packed
 use Rattle.closing.proofs.Packed.Laws as Packed′
@@ -104,7 +109,7 @@ module _ {M : Type 1} (𝓤 : URA M) (H : Heap 𝓤) (A : Atoms 𝓤) (W : Given
 
   -- what the core ensures, at its result and at the last lists
   abbrev Said : Closed → List ℕ → List ℕ → Type 0
-  Said r t′ y′ = Outcome (lend (h .used) (h .active) t y) (record { code = c; start = n; packed = p }) (verdictOf (r .answer)) (lend (r .head .used) (r .head .active) t′ y′)
+  Said r t′ y′ = Outcome (held h t) y (hand c n p) (verdictOf (r .answer)) (held (r .head) t′) y′
 
   abbrev Tail : List RattleType
   Tail = MutSlice (named 0) (κs .0) u32 ∷ ShrSlice (named 1) (κs .1 .0) u8 ∷ u32 ∷ Packed.the-row ∷ MutSlice (named 2) (κs .1 .1 .0) u16 ∷ []
@@ -150,23 +155,27 @@ module _ {M : Type 1} (𝓤 : URA M) (H : Heap 𝓤) (A : Atoms 𝓤) (W : Given
         qed W ((‵ (flft κ q) ⊛ raw (alive 𝓤 H A core.signature κs qs)) ∷ ‵ (owns (MutRef (named 0) κ T.the-row ∷ Tail) a vals) ∷ []) ∵ enter ! C Λ code.function flat-vals _ $
         alloc1 ! (λ l₀. alloc1 ! (λ l₁. alloc1 ! (λ l₂. alloc1 ! (λ l₃. alloc1 ! (λ l₄. alloc1 ! (λ l₅. alloc1 ! (λ l₆. alloc1 ! (λ l₇. alloc1 ! (λ l₈. alloc1 ! (λ l₉. alloc1 ! (λ l₁₀. alloc1 ! (λ l₁₁. alloc1 ! (λ l₁₂. alloc0 ! $ params1 ! $
         pass1 ! (init ! 22 refl (tt, tt)) $ pass1 ! (init ! 20 refl (tt, (tt, (record { fits = fits₂ .0 }, tt)))) $ pass1 ! (init ! 18 refl (tt, (tt, (record { fits = fits₃ .0 }, tt)))) $ pass1 ! (init ! 16 refl (tt, record { fits = fits₄ })) $ pass1 ! (init ! 14 refl (NL.lawful Packed.the-type Packed′.the-laws 𝓤 H A W tt .typed p _ fits₅ .0)) $ pass1 ! (init ! 12 refl (tt, (tt, (record { fits = fits₆ .0 }, tt)))) $ pass0 ! $
-        -- [_12; …; _11; …; …; _1; …; room for _0; …; the tokens; what the parameters own]: the borrow of the head is opened
+        -- [_12; …; _11; …; …; _1; …; room for _0; …; the tokens; what the parameters own]: the borrow of the head is
+        -- opened
         move ! (27 ∷ []) $ fsplit ! $ fsplit3 ! $ drop ! $ move ! (29 ∷ []) $ split ! $ move ! (2 ∷ 3 ∷ 0 ∷ []) $
         opens ! tt T.the-row {h = h} b o (λ us. spelt ! T.the-row (Is T.the-row) (shows 𝓤 H A T.the-row) (λ d. T′.lowered d ∷ []) (T′.lowers .val-is) fullShare h us b o $
         move ! (1 ∷ []) $ peeks ! T.the-row (Is T.the-row) (shows 𝓤 H A T.the-row) h (T′.lowered h ∷ []) (λ g.
-        -- [what the head owns; the head's cell; the open borrow; obs; auth; the slices' tokens; what the slices own; _12; …; _11; …; …; _1; …; room for _0; …]
+        -- [what the head owns; the head's cell; the open borrow; obs; auth; the slices' tokens; what the slices own;
+        -- _12; …; _11; …; …; _1; …; room for _0; …]
         assigns ! (of-opd ! (load ! (from ! (hop ! (look ! 29 refl) (stop !))) (look-raw ! 1 refl))) (from ! (stop !)) (init ! 15 refl (LL.lawful T.the-type T′.the-laws 𝓤 H A W .typed h _ g .0)) $
         assigns ! (addr ! (from ! (fld ! refl (hop ! (look-in ! 27 (sub ! 0 refl (whole !))) (stop !))))) (from ! (stop !)) (init ! 13 refl (tt, tt)) $
         assigns ! (agg ! (and-then ! (load ! (from ! (stop !)) (look ! 13 refl)) (and-then ! (load ! (from ! (fld ! refl (stop !))) (look-in ! 27 (sub ! 1 refl (whole !)))) (no-more !)))) (from ! (stop !)) (init ! 11 refl (tt, (tt, (record { fits = fits₂ .0 }, tt)))) $
         assigns ! (addr ! (from ! (fld ! refl (hop ! (look-in ! 19 (sub ! 0 refl (whole !))) (stop !))))) (from ! (stop !)) (init ! 9 refl (tt, tt)) $
         assigns ! (agg ! (and-then ! (load ! (from ! (stop !)) (look ! 9 refl)) (and-then ! (load ! (from ! (fld ! refl (stop !))) (look-in ! 19 (sub ! 1 refl (whole !)))) (no-more !)))) (from ! (stop !)) (init ! 7 refl (tt, (tt, (record { fits = fits₆ .0 }, tt)))) $
-        -- the core is called with all that it asks; what is left is [the head's cell; the open borrow; obs; auth; _12; …]
+        -- the core is called with all that it asks; what is left is [the head's cell; the open borrow; obs; auth; _12;
+        -- …]
         move ! (5 ∷ 0 ∷ 6 ∷ []) $ use3 W (raw (Core 𝓤 H A at-mem run .pre to-core)) goes $
         calls-at ! fm (Core 𝓤 H A at-mem run) known to-core (and-then ! (load ! (from ! (stop !)) (look ! 13 refl)) (and-then ! (load ! (from ! (stop !)) (look ! 9 refl)) (and-then ! (load ! (from ! (stop !)) (look ! 23 refl)) (and-then ! (load ! (from ! (stop !)) (look ! 21 refl)) (and-then ! (load ! (from ! (stop !)) (look ! 19 refl)) (and-then ! (load ! (from ! (stop !)) (look ! 5 refl)) (no-more !))))))) (λ w.
         use1 W (later (some (λ (r : Closed). (raw (alive 𝓤 H A core.signature κs qs) ⊛ ‵ (S.the-row .own r (w ∷ []))) ⊛ raw (ensured 𝓤 H A core.ended (core.clauses 𝓤 H A at-mem run) κs (h, ys) tt r)))) (id⊢ 𝓤 _) $ await ! tt $ pick ! (λ r.
         split ! $ move ! (1 ∷ []) $ use1 W (some (λ (ws : After). ‵ (lasts core.ended κs (h, ys) ws) ⊛ raw (fact 𝓤 (Said r (ws .1 .0) (ws .1 .1 .1 .1 .1 .0))))) (id⊢ 𝓤 _) $ pick ! (λ ws.
         split ! $ move ! (1 ∷ []) $ heard ! (Said r (ws .1 .0) (ws .1 .1 .1 .1 .1 .0)) (λ e. move ! (1 ∷ []) $ split ! $ move ! (1 ∷ []) $
-        -- [what the result owns; the slices' tokens; what the core has said; the head's cell; the open borrow; obs; auth; _12; …]
+        -- [what the result owns; the slices' tokens; what the core has said; the head's cell; the open borrow; obs;
+        -- auth; _12; …]
         peeks ! S.the-row (Is S.the-row) (shows 𝓤 H A S.the-row) r (w ∷ []) (λ is.
         land ! (from ! (stop !)) (init ! 17 refl (LL.lawful S.the-type S′.the-laws 𝓤 H A W .typed r _ is .0)) $ rewrite ! 17 (λ (u : Val). ‵ (fat fullShare S′.mir l₇ 0 u)) (ap only (S′.lowers .val-is r _ is)) refl $
         assigns ! (of-opd ! (load ! (from ! (fld ! refl (stop !))) (look-in ! 17 (sub ! 0 refl (whole !))))) (from ! (hop ! (look ! 29 refl) (stop !))) (store-raw ! 3 refl (LL.lawful T.the-type T′.the-laws 𝓤 H A W .typed (r .head) _ (head-is r w is) .0)) $

@@ -1,6 +1,9 @@
--- `lent::fresh` meets its contract: a walk of its MIR, by hand. The borrow of the head is opened; the head is copied out of its cell; the table is passed on to the
--- core at its own lifetime, share and ghost name, for good; the head that the core returns is stored in the cell, and the borrow is closed at it. Of the core
--- the proof knows only that it meets its contract. What the core says of the table's last list is what the contract says of it (`Left.antt`): it is never
+-- `lent::fresh` meets its contract: a walk of its MIR, by hand. The borrow of the head is opened; the head is copied
+-- out of its cell; the table is passed on to the
+-- core at its own lifetime, share and ghost name, for good; the head that the core returns is stored in the cell, and
+-- the borrow is closed at it. Of the core
+-- the proof knows only that it meets its contract. What the core says of the table's last list is what the contract
+-- says of it (`Left.antt`): it is never
 -- taken apart. Assumes nothing.
 use mathlib.Core.Path.{refl, ap, subst}
 use Prim.Native.Nat.{ℕ}
@@ -45,7 +48,8 @@ use denote.Triple.Walked.{says, Stays, stay-ref, walkOf, goes-ref, Walks, ends-a
 use Rattle.head.specs.declared.Head.{Head}
 use Rattle.fresh.specs.declared.Opened.{Opened}
 use Rattle.facts.specs.Fresh.{numberOf, countOf}
-use Rattle.fresh.specs.Call.{Outcome, lend}
+use Rattle.fresh.specs.Call.{Outcome}
+use Rattle.head.specs.Held.{held}
 use Rattle.lent.proofs.Left.{rest, all-left, go-left}
 use Rattle.head.proofs.Head as T
 use Rattle.head.proofs.Head.Laws as T′
@@ -88,7 +92,7 @@ module _ {M : Type 1} (𝓤 : URA M) (H : Heap 𝓤) (A : Atoms 𝓤) (W : Given
 
   -- what the core ensures, at its result and at the last lists
   abbrev Said : Opened → List ℕ → Type 0
-  Said r t′ = Outcome (lend (h .used) (h .active) t) (numberOf (r .answer)) (countOf (r .answer)) (lend (r .head .used) (r .head .active) t′)
+  Said r t′ = Outcome (held h t) (numberOf (r .answer)) (countOf (r .answer)) (held (r .head) t′)
 
   abbrev Tail : List RattleType
   Tail = MutSlice (named 0) (κs .0) u32 ∷ []
@@ -134,21 +138,25 @@ module _ {M : Type 1} (𝓤 : URA M) (H : Heap 𝓤) (A : Atoms 𝓤) (W : Given
         qed W ((‵ (flft κ q) ⊛ raw (alive 𝓤 H A core.signature κs qs)) ∷ ‵ (owns (MutRef (named 0) κ T.the-row ∷ Tail) a vals) ∷ []) ∵ enter ! C Λ code.function flat-vals _ $
         alloc1 ! (λ l₀. alloc1 ! (λ l₁. alloc1 ! (λ l₂. alloc1 ! (λ l₃. alloc1 ! (λ l₄. alloc1 ! (λ l₅. alloc1 ! (λ l₆. alloc0 ! $ params1 ! $
         pass1 ! (init ! 10 refl (tt, tt)) $ pass1 ! (init ! 8 refl (tt, (tt, (record { fits = fits₂ .0 }, tt)))) $ pass0 ! $
-        -- [_6; …; _5; …; …; _1; …; room for _0; …; the tokens; what the parameters own]: the borrow of the head is opened
+        -- [_6; …; _5; …; …; _1; …; room for _0; …; the tokens; what the parameters own]: the borrow of the head is
+        -- opened
         move ! (15 ∷ []) $ fsplit ! $ fsplit3 ! $ drop ! $ move ! (17 ∷ []) $ split ! $ move ! (2 ∷ 3 ∷ 0 ∷ []) $
         opens ! tt T.the-row {h = h} b o (λ us. spelt ! T.the-row (Is T.the-row) (shows 𝓤 H A T.the-row) (λ d. T′.lowered d ∷ []) (T′.lowers .val-is) fullShare h us b o $
         move ! (1 ∷ []) $ peeks ! T.the-row (Is T.the-row) (shows 𝓤 H A T.the-row) h (T′.lowered h ∷ []) (λ g.
-        -- [what the head owns; the head's cell; the open borrow; obs; auth; the slices' tokens; what the slices own; _6; …; _5; …; …; _1; …; room for _0; …]
+        -- [what the head owns; the head's cell; the open borrow; obs; auth; the slices' tokens; what the slices own;
+        -- _6; …; _5; …; …; _1; …; room for _0; …]
         assigns ! (of-opd ! (load ! (from ! (hop ! (look ! 17 refl) (stop !))) (look-raw ! 1 refl))) (from ! (stop !)) (init ! 11 refl (LL.lawful T.the-type T′.the-laws 𝓤 H A W .typed h _ g .0)) $
         assigns ! (addr ! (from ! (fld ! refl (hop ! (look-in ! 15 (sub ! 0 refl (whole !))) (stop !))))) (from ! (stop !)) (init ! 9 refl (tt, tt)) $
         assigns ! (agg ! (and-then ! (load ! (from ! (stop !)) (look ! 9 refl)) (and-then ! (load ! (from ! (fld ! refl (stop !))) (look-in ! 15 (sub ! 1 refl (whole !)))) (no-more !)))) (from ! (stop !)) (init ! 7 refl (tt, (tt, (record { fits = fits₂ .0 }, tt)))) $
-        -- the core is called with all that it asks; what is left is [the head's cell; the open borrow; obs; auth; _6; …]
+        -- the core is called with all that it asks; what is left is [the head's cell; the open borrow; obs; auth; _6;
+        -- …]
         move ! (5 ∷ 0 ∷ 6 ∷ []) $ use3 W (raw (Core 𝓤 H A at-mem run .pre to-core)) goes $
         calls-at ! fm (Core 𝓤 H A at-mem run) known to-core (and-then ! (load ! (from ! (stop !)) (look ! 9 refl)) (and-then ! (load ! (from ! (stop !)) (look ! 5 refl)) (no-more !))) (λ w.
         use1 W (later (some (λ (r : Opened). (raw (alive 𝓤 H A core.signature κs qs) ⊛ ‵ (S.the-row .own r (w ∷ []))) ⊛ raw (ensured 𝓤 H A core.ended (core.clauses 𝓤 H A at-mem run) κs (h, ys) tt r)))) (id⊢ 𝓤 _) $ await ! tt $ pick ! (λ r.
         split ! $ move ! (1 ∷ []) $ use1 W (some (λ (ws : After). ‵ (lasts core.ended κs (h, ys) ws) ⊛ raw (fact 𝓤 (Said r (ws .1 .0))))) (id⊢ 𝓤 _) $ pick ! (λ ws.
         split ! $ move ! (1 ∷ []) $ heard ! (Said r (ws .1 .0)) (λ e. move ! (1 ∷ []) $ split ! $ move ! (1 ∷ []) $
-        -- [what the result owns; the slices' tokens; what the core has said; the head's cell; the open borrow; obs; auth; _6; …]
+        -- [what the result owns; the slices' tokens; what the core has said; the head's cell; the open borrow; obs;
+        -- auth; _6; …]
         peeks ! S.the-row (Is S.the-row) (shows 𝓤 H A S.the-row) r (w ∷ []) (λ is.
         land ! (from ! (stop !)) (init ! 13 refl (LL.lawful S.the-type S′.the-laws 𝓤 H A W .typed r _ is .0)) $ rewrite ! 13 (λ (u : Val). ‵ (fat fullShare S′.mir l₃ 0 u)) (ap only (S′.lowers .val-is r _ is)) refl $
         assigns ! (of-opd ! (load ! (from ! (fld ! refl (stop !))) (look-in ! 13 (sub ! 0 refl (whole !))))) (from ! (hop ! (look ! 17 refl) (stop !))) (store-raw ! 3 refl (LL.lawful T.the-type T′.the-laws 𝓤 H A W .typed (r .head) _ (head-is r w is) .0)) $

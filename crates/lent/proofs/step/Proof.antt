@@ -1,6 +1,9 @@
--- `lent::step` meets its contract: a walk of its MIR, by hand. The borrow of the head is opened; the head is copied out of its cell; the slices are passed
--- on to the core at their own lifetimes, shares and ghost names, for good; the head that the core returns is stored in the cell, and the borrow is closed
--- at it. Of the core the proof knows only that it meets its contract. What the core says of the slices' last lists is what the contract says of them
+-- `lent::step` meets its contract: a walk of its MIR, by hand. The borrow of the head is opened; the head is copied out
+-- of its cell; the slices are passed
+-- on to the core at their own lifetimes, shares and ghost names, for good; the head that the core returns is stored in
+-- the cell, and the borrow is closed
+-- at it. Of the core the proof knows only that it meets its contract. What the core says of the slices' last lists is
+-- what the contract says of them
 -- (`Left.antt`): it is never taken apart. Assumes nothing.
 use mathlib.Core.Path.{refl, ap, subst}
 use Prim.Native.Nat.{ℕ}
@@ -43,6 +46,7 @@ use denote.Triple.Clauses.{ensured, lasts, Lasts}
 use denote.Triple.Table.{entered, cited}
 use denote.Triple.Walked.{says, Stays, stay-ref, walkOf, goes-ref, Walks, ends-at, walked, walk-meets}
 use Rattle.head.specs.declared.Head.{Head}
+use Rattle.head.specs.Held.{held}
 use Rattle.step.specs.declared.Stepped.{Stepped}
 use Rattle.step.specs.Call.{Outcome, lend, numberOf}
 use Rattle.lent.proofs.Left.{rest, all-left, go-left}
@@ -99,7 +103,7 @@ module _ {M : Type 1} (𝓤 : URA M) (H : Heap 𝓤) (A : Atoms 𝓤) (W : Given
 
   -- what the core ensures, at its result and at the last lists
   abbrev Said : Stepped → List ℕ → List ℕ → List ℕ → Type 0
-  Said r t′ s′ m′ = Outcome (lend (h .used) (h .active) t s m) c x (numberOf (r .answer)) (lend (r .head .used) (r .head .active) t′ s′ m′)
+  Said r t′ s′ m′ = Outcome (lend (held h t) s m) c x (numberOf (r .answer)) (lend (held (r .head) t′) s′ m′)
 
   abbrev Tail : List RattleType
   Tail = MutSlice (named 0) (κs .0) u32 ∷ ShrSlice (named 1) (κs .1 .0) u8 ∷ MutSlice (named 2) (κs .1 .1 .0) u32 ∷ MutSlice (named 3) (κs .1 .1 .1 .0) u32 ∷ ShrSlice (named 4) (κs .1 .1 .1 .1 .0) u32 ∷ []
@@ -145,11 +149,13 @@ module _ {M : Type 1} (𝓤 : URA M) (H : Heap 𝓤) (A : Atoms 𝓤) (W : Given
         qed W ((‵ (flft κ q) ⊛ raw (alive 𝓤 H A core.signature κs qs)) ∷ ‵ (owns (MutRef (named 0) κ T.the-row ∷ Tail) a vals) ∷ []) ∵ enter ! C Λ code.function flat-vals _ $
         alloc1 ! (λ l₀. alloc1 ! (λ l₁. alloc1 ! (λ l₂. alloc1 ! (λ l₃. alloc1 ! (λ l₄. alloc1 ! (λ l₅. alloc1 ! (λ l₆. alloc1 ! (λ l₇. alloc1 ! (λ l₈. alloc1 ! (λ l₉. alloc1 ! (λ l₁₀. alloc1 ! (λ l₁₁. alloc1 ! (λ l₁₂. alloc1 ! (λ l₁₃. alloc1 ! (λ l₁₄. alloc0 ! $ params1 ! $
         pass1 ! (init ! 26 refl (tt, tt)) $ pass1 ! (init ! 24 refl (tt, (tt, (record { fits = fits₂ .0 }, tt)))) $ pass1 ! (init ! 22 refl (tt, (tt, (record { fits = fits₃ .0 }, tt)))) $ pass1 ! (init ! 20 refl (tt, (tt, (record { fits = fits₄ .0 }, tt)))) $ pass1 ! (init ! 18 refl (tt, (tt, (record { fits = fits₅ .0 }, tt)))) $ pass1 ! (init ! 16 refl (tt, (tt, (record { fits = fits₆ .0 }, tt)))) $ pass0 ! $
-        -- [_14; …; _13; …; …; _1; …; room for _0; …; the tokens; what the parameters own]: the borrow of the head is opened
+        -- [_14; …; _13; …; …; _1; …; room for _0; …; the tokens; what the parameters own]: the borrow of the head is
+        -- opened
         move ! (31 ∷ []) $ fsplit ! $ fsplit3 ! $ drop ! $ move ! (33 ∷ []) $ split ! $ move ! (2 ∷ 3 ∷ 0 ∷ []) $
         opens ! tt T.the-row {h = h} b o (λ us. spelt ! T.the-row (Is T.the-row) (shows 𝓤 H A T.the-row) (λ d. T′.lowered d ∷ []) (T′.lowers .val-is) fullShare h us b o $
         move ! (1 ∷ []) $ peeks ! T.the-row (Is T.the-row) (shows 𝓤 H A T.the-row) h (T′.lowered h ∷ []) (λ g.
-        -- [what the head owns; the head's cell; the open borrow; obs; auth; the slices' tokens; what the slices own; _14; …; _13; …; …; _1; …; room for _0; …]
+        -- [what the head owns; the head's cell; the open borrow; obs; auth; the slices' tokens; what the slices own;
+        -- _14; …; _13; …; …; _1; …; room for _0; …]
         assigns ! (of-opd ! (load ! (from ! (hop ! (look ! 33 refl) (stop !))) (look-raw ! 1 refl))) (from ! (stop !)) (init ! 19 refl (LL.lawful T.the-type T′.the-laws 𝓤 H A W .typed h _ g .0)) $
         assigns ! (addr ! (from ! (fld ! refl (hop ! (look-in ! 31 (sub ! 0 refl (whole !))) (stop !))))) (from ! (stop !)) (init ! 17 refl (tt, tt)) $
         assigns ! (agg ! (and-then ! (load ! (from ! (stop !)) (look ! 17 refl)) (and-then ! (load ! (from ! (fld ! refl (stop !))) (look-in ! 31 (sub ! 1 refl (whole !)))) (no-more !)))) (from ! (stop !)) (init ! 15 refl (tt, (tt, (record { fits = fits₂ .0 }, tt)))) $
@@ -157,13 +163,15 @@ module _ {M : Type 1} (𝓤 : URA M) (H : Heap 𝓤) (A : Atoms 𝓤) (W : Given
         assigns ! (agg ! (and-then ! (load ! (from ! (stop !)) (look ! 13 refl)) (and-then ! (load ! (from ! (fld ! refl (stop !))) (look-in ! 27 (sub ! 1 refl (whole !)))) (no-more !)))) (from ! (stop !)) (init ! 11 refl (tt, (tt, (record { fits = fits₄ .0 }, tt)))) $
         assigns ! (addr ! (from ! (fld ! refl (hop ! (look-in ! 25 (sub ! 0 refl (whole !))) (stop !))))) (from ! (stop !)) (init ! 9 refl (tt, tt)) $
         assigns ! (agg ! (and-then ! (load ! (from ! (stop !)) (look ! 9 refl)) (and-then ! (load ! (from ! (fld ! refl (stop !))) (look-in ! 25 (sub ! 1 refl (whole !)))) (no-more !)))) (from ! (stop !)) (init ! 7 refl (tt, (tt, (record { fits = fits₅ .0 }, tt)))) $
-        -- the core is called with all that it asks; what is left is [the head's cell; the open borrow; obs; auth; _14; …]
+        -- the core is called with all that it asks; what is left is [the head's cell; the open borrow; obs; auth; _14;
+        -- …]
         move ! (5 ∷ 0 ∷ 6 ∷ []) $ use3 W (raw (Core 𝓤 H A at-mem run .pre to-core)) goes $
         calls-at ! fm (Core 𝓤 H A at-mem run) known to-core (and-then ! (load ! (from ! (stop !)) (look ! 17 refl)) (and-then ! (load ! (from ! (stop !)) (look ! 13 refl)) (and-then ! (load ! (from ! (stop !)) (look ! 27 refl)) (and-then ! (load ! (from ! (stop !)) (look ! 9 refl)) (and-then ! (load ! (from ! (stop !)) (look ! 5 refl)) (and-then ! (load ! (from ! (stop !)) (look ! 21 refl)) (no-more !))))))) (λ w.
         use1 W (later (some (λ (r : Stepped). (raw (alive 𝓤 H A core.signature κs qs) ⊛ ‵ (S.the-row .own r (w ∷ []))) ⊛ raw (ensured 𝓤 H A core.ended (core.clauses 𝓤 H A at-mem run) κs (h, ys) tt r)))) (id⊢ 𝓤 _) $ await ! tt $ pick ! (λ r.
         split ! $ move ! (1 ∷ []) $ use1 W (some (λ (ws : After). ‵ (lasts core.ended κs (h, ys) ws) ⊛ raw (fact 𝓤 (Said r (ws .1 .0) (ws .1 .1 .1 .0) (ws .1 .1 .1 .1 .0))))) (id⊢ 𝓤 _) $ pick ! (λ ws.
         split ! $ move ! (1 ∷ []) $ heard ! (Said r (ws .1 .0) (ws .1 .1 .1 .0) (ws .1 .1 .1 .1 .0)) (λ e. move ! (1 ∷ []) $ split ! $ move ! (1 ∷ []) $
-        -- [what the result owns; the slices' tokens; what the core has said; the head's cell; the open borrow; obs; auth; _14; …]
+        -- [what the result owns; the slices' tokens; what the core has said; the head's cell; the open borrow; obs;
+        -- auth; _14; …]
         peeks ! S.the-row (Is S.the-row) (shows 𝓤 H A S.the-row) r (w ∷ []) (λ is.
         land ! (from ! (stop !)) (init ! 21 refl (LL.lawful S.the-type S′.the-laws 𝓤 H A W .typed r _ is .0)) $ rewrite ! 21 (λ (u : Val). ‵ (fat fullShare S′.mir l₇ 0 u)) (ap only (S′.lowers .val-is r _ is)) refl $
         assigns ! (of-opd ! (load ! (from ! (fld ! refl (stop !))) (look-in ! 21 (sub ! 0 refl (whole !))))) (from ! (hop ! (look ! 33 refl) (stop !))) (store-raw ! 3 refl (LL.lawful T.the-type T′.the-laws 𝓤 H A W .typed (r .head) _ (head-is r w is) .0)) $

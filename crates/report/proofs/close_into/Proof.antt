@@ -8,7 +8,7 @@ returns : tie.Need-returns
 returns c =
     let o = c .before .before .before .before .before .before .before .before .before .before .close .ensures in
     let said = c .before .before .put-answer .ensures in
-    (record { verdict = _; outcome = o; stored = outcome-text _ _ _ _ _ _ _ o (said .0) }, said .1)
+    (record { verdict = _; outcome = o; stored = outcome-text _ _ _ _ _ _ _ _ _ o (said .0) }, said .1)
 
 pub close-into-spec : {M : Type 1} → statement M
 close-into-spec =

@@ -1,5 +1,5 @@
 -- `report::put_answer`, answer by answer. Assumes nothing.
-use Rattle.report.proofs.Reporting.{report-none, report-over, report-list, report-no-records, report-unsound, report-long-code, report-short-types, report-no-room}
+use Rattle.report.proofs.Reporting.{report-none, report-over, report-list, report-refused}
 use borrow.Author.Needs.{needs}
 use Rattle.report.proofs.put_answer.Statement.{statement}
 use Rattle.report.proofs.put_answer.Tie as tie
@@ -8,7 +8,6 @@ pub put-answer-spec : {M : Type 1} → statement M
 put-answer-spec =
     tie.close
     (tie.spec
-    (λ c κs. search needs)
     (λ c. search needs)
     (λ c. search needs)
     (λ c κs. search needs)
@@ -19,13 +18,6 @@ put-answer-spec =
     (λ c κs. search needs)
     (λ c. search needs)
     (λ c κs. search needs)
-    (λ c. search needs)
-    (λ c κs. search needs)
-    (λ c. search needs)
-    (λ c κs. search needs)
-    (λ c. search needs)
-    (λ c κs. search needs)
-    (λ c. search needs)
     (λ c κs. search needs)
     (λ c. search needs)
     (λ c. search (report-none, needs))
@@ -34,12 +26,4 @@ put-answer-spec =
     (λ c. search needs)
     (λ c. search (report-list, needs))
     (λ c. search needs)
-    (λ c. search (report-no-records, needs))
-    (λ c. search needs)
-    (λ c. search (report-unsound, needs))
-    (λ c. search needs)
-    (λ c. search (report-long-code, needs))
-    (λ c. search needs)
-    (λ c. search (report-short-types, needs))
-    (λ c. search needs)
-    (λ c. search (report-no-room, needs)))
+    (λ c. search (report-refused, needs)))

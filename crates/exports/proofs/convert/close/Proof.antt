@@ -10,7 +10,7 @@ returns c =
     let closed = c .before .before .before .before .before .before in
     let read = closed .before .before .before in
     let s = read .before .before .before .before in
-    closed-so _ (now (s .args .code)) (s .args .start) _ _ _ _ _ _ (read .read-packed .ensures) (closed .close .ensures) (c .answered .ensures)
+    closed-so _ _ (now (s .args .code)) (s .args .start) _ _ _ _ _ _ _ (read .read-packed .ensures) (closed .close .ensures) (c .answered .ensures)
 
 pub close-spec : {M : Type 1} → statement M
 close-spec =

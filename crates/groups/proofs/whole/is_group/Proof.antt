@@ -1,4 +1,5 @@
--- `groups::whole::is_group`: no front, counts over the sizes, and as many bytes as they ask for or not. Assumes nothing.
+-- `groups::whole::is_group`: no front, counts over the sizes, and as many bytes as they ask for or not. Assumes
+-- nothing.
 use Rattle.trace.proofs.GroupLaws.{rest-within}
 use Rattle.groups.proofs.Wholes.{short-front, counts-over, as-many}
 use borrow.Author.Needs.{needs}

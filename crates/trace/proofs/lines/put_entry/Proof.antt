@@ -3,7 +3,7 @@ use Prim.Native.Nat.{_^_, _<_}
 use borrow.Author.Needs.{needs}
 use Rattle.trace.specs.Lines.{decimal, blank}
 use Rattle.trace.proofs.Pieces.{at-more}
-use Rattle.trace.proofs.EntryLines.{entry-no-types, entry-too-long, entry-near, entry-room, entry-written}
+use Rattle.trace.proofs.EntryLines.{entry-refused, entry-near, entry-room, entry-written}
 use Rattle.trace.proofs.lines.put_entry.Statement.{statement}
 use Rattle.trace.proofs.lines.put_entry.Tie as tie
 
@@ -42,23 +42,13 @@ returns c =
 
 returns-2 : tie.Need-returns-2
 returns-2 c =
-    let s = c .before .before in
+    let s = c .before .before .before in
     let start = s .before .before .before .before .before .before .before .before .before .before .before .before .before .before .before .before in
     let digits = s .before .before .before .before .before .before .before .before .before .before .before .put-numbered .ensures .0 in
     let gap = s .before .before .before .before .before .before .put-bytes .ensures in
     let first = at-more _ _ _ _ _ _ (decimal (start .args .k)) blank (digits .0, digits .1) (gap .0) (gap .1) in
     let small : start .args .k < 2 ^ 32 = search needs in
-    (entry-no-types _ _ _ _ _ _ small (start .pre) first _ _ (s .before .before .text .ensures) _ (c .enum-told .given .1), search needs)
-
-returns-3 : tie.Need-returns-3
-returns-3 c =
-    let s = c .before .before in
-    let start = s .before .before .before .before .before .before .before .before .before .before .before .before .before .before .before .before in
-    let digits = s .before .before .before .before .before .before .before .before .before .before .before .put-numbered .ensures .0 in
-    let gap = s .before .before .before .before .before .before .put-bytes .ensures in
-    let first = at-more _ _ _ _ _ _ (decimal (start .args .k)) blank (digits .0, digits .1) (gap .0) (gap .1) in
-    let small : start .args .k < 2 ^ 32 = search needs in
-    (entry-too-long _ _ _ _ _ _ small (start .pre) first _ _ (s .before .before .text .ensures) _ (c .enum-told2 .given .1), search needs)
+    (entry-refused _ _ _ _ _ _ small (start .pre) first _ _ (s .before .before .text .ensures) _ _ (c .before .answer2 .given .1), search needs)
 
 pub put-entry-spec : {M : Type 1} → statement M
 put-entry-spec =
@@ -78,9 +68,6 @@ put-entry-spec =
     put-bytes-requires-2
     (λ c. search needs)
     (λ c. search needs)
-    (λ c. search needs)
     returns
     (λ c. search needs)
-    returns-2
-    (λ c. search needs)
-    returns-3)
+    returns-2)
