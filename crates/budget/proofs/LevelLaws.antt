@@ -1,4 +1,5 @@
--- The sum and the depth at a path and below it, one level down: a child has a higher number, so that more levels than there are numbers tell nothing more. Assumes
+-- The sum and the depth at a path and below it, one level down: a child has a higher number, so that more levels than
+-- there are numbers tell nothing more. Assumes
 -- nothing.
 use Prim.Native.Nat.{ℕ, zero, suc, _+_, _-_, _≤_, _<_}
 use mathlib.Core.Path.{_≡_, refl, ap}

@@ -9,7 +9,7 @@ use native.Mathlib.Nat.{eq-or-lt-of-le}
 use lib.Dec.{eqb, leb, ltb}
 use lib.ListN.{length}
 use borrow.Author.Tests.{eq-eqb, ne-eqb, lt-ltb, lt-leb}
-use Rattle.facts.specs.State.{Node, nodeOf, pick, ins, kids, kidsIn}
+use Rattle.facts.specs.State.{Node, nodeOf, ins, kids, kidsIn}
 use Rattle.list.specs.Walk.{sumOf}
 
 -- the sum of f over 1 to n
@@ -85,7 +85,7 @@ module _ (key parent f : ℕ → ℕ) (p : ℕ) where
   sum-ins r [] = omega arith
   sum-ins r (m ∷ ms) = go (ltb (key r) (key m)) (sum-ins r ms)
     where
-      go : (b : Bool) → sumOf f (ins key r ms) ≡ sumOf f ms + f r → sumOf f (pick b (r ∷ m ∷ ms) (m ∷ ins key r ms)) ≡ sumOf f (m ∷ ms) + f r
+      go : (b : Bool) → sumOf f (ins key r ms) ≡ sumOf f ms + f r → sumOf f (cond b (r ∷ m ∷ ms) (m ∷ ins key r ms)) ≡ sumOf f (m ∷ ms) + f r
       go true e = omega arith
       go false e = omega arith
 
@@ -95,7 +95,7 @@ module _ (key parent f : ℕ → ℕ) (p : ℕ) where
   sum-kids (suc n) = go (eqb (parent (suc n)) p) (ltb p (suc n)) (sum-kids n)
     where
       go : (a b : Bool) → sumOf f (kids key parent p n) ≡ sumTo (λ q. at q (f q) (parent q) p) n
-          → sumOf f (pick a (pick b (ins key (suc n) (kids key parent p n)) (kids key parent p n)) (kids key parent p n))
+          → sumOf f (cond a (cond b (ins key (suc n) (kids key parent p n)) (kids key parent p n)) (kids key parent p n))
           ≡ sumTo (λ q. at q (f q) (parent q) p) n + cond a (cond b (f (suc n)) 0) 0
       go true true e = let w = sum-ins (suc n) (kids key parent p n) in omega arith
       go true false e = omega arith

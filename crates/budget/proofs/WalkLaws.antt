@@ -95,7 +95,8 @@ from-some (suc x) n = let e : x ≡ suc x - 1 = omega arith in ap Left e
 from-none : (x : ℕ) → x ≡ 0 → budgetFrom x ≡ Over
 from-none x z = rw z refl
 
--- what is left for the children that are left at c gives what all of them leave, and the last key so far the last of all
+-- what is left for the children that are left at c gives what all of them leave, and the last key so far the last of
+-- all
 pub record Paying (t : List ℕ) (u r depth left rest last c : ℕ) : Type 0 where
   pub ns : List ℕ
   pub tail : Tail t u r c ns

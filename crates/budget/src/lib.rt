@@ -15,7 +15,8 @@ pub struct Spent {
     pub last_word: u32,
 }
 
-// What a record's children leave, as one number: one more than what is left, 0 where they are over; and the key of the last seen one.
+// What a record's children leave, as one number: one more than what is left, 0 where they are over; and the key of the
+// last seen one.
 pub struct Below {
     pub left: u64,
     pub last_key: u32,

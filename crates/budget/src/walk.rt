@@ -1,4 +1,5 @@
-// "A node costs one more than its last word": the cost of each seen record is taken off what is left, children first. What is left goes from call to call as one
+// "A node costs one more than its last word": the cost of each seen record is taken off what is left, children first.
+// What is left goes from call to call as one
 // number, one more than what is left, 0 where the facts are over: an enum would go through memory for each record.
 ghost use mathlib.Core.Path.{_≡_};
 ghost use Prim.Native.Nat.{_+_, _-_, _^_, _≤_};
@@ -42,7 +43,8 @@ fn own_left(below: u64, last: u32) -> u64
     below - last as u64 - 1
 }
 
-// What is left after the record r, which stands at this depth, and all below it. A child's number is higher than its parent's, so that fewer numbers are
+// What is left after the record r, which stands at this depth, and all below it. A child's number is higher than its
+// parent's, so that fewer numbers are
 // left above it. The walk ends with the first record that is too deep or costs more than is left.
 fn left_below(table: &[u32], n: u32, used: u32, r: u32, depth: u32, left: u32) -> u64
     requires { ⌜ Shaped (now table) used n ⌝ }
@@ -65,7 +67,8 @@ fn left_below(table: &[u32], n: u32, used: u32, r: u32, depth: u32, left: u32) -
     own_left(below.left, last_word(table, n, used, r, below.last_key))
 }
 
-// What the children of a record at a depth that is allowed leave, each by `left_below`. A child often stands in the chain right behind the one before it:
+// What the children of a record at a depth that is allowed leave, each by `left_below`. A child often stands in the
+// chain right behind the one before it:
 // where it does, the walk counts on instead of waiting for the number that it loads.
 fn left_of_children(table: &[u32], n: u32, used: u32, r: u32, depth: u32, left: u32) -> Below
     requires { ⌜ Shaped (now table) used n ⌝ }

@@ -1,4 +1,5 @@
--- "Entry k is the same in any two granted lists that have it and whose facts at and below argument word k agree." Assumes nothing.
+-- "Entry k is the same in any two granted lists that have it and whose facts at and below argument word k agree."
+-- Assumes nothing.
 use Prim.Native.Nat.{ℕ, zero, suc, _+_, _≤_, _<_}
 use mathlib.Core.Path.{_≡_, sym, ap, _∙_}
 use mathlib.Core.List.{List, []}
@@ -6,12 +7,11 @@ use native.Mathlib.Omega.{arith}
 use Rattle.types.specs.Tree.{AbiType}
 use Rattle.facts.specs.Formed.{Formed}
 use Rattle.facts.specs.State.{Node}
+use Rattle.paths.specs.Path.{AgreeAt}
+use Rattle.paths.proofs.PathLaws.{root-stands}
 use Rattle.list.specs.Seen.{lastWord}
 use Rattle.list.specs.Types.{wordsWith, typeOf, listOf}
 use Rattle.entries.specs.Entry.{entryOf}
-use Rattle.entries.specs.Agree.{AgreeAt}
-use Rattle.entries.proofs.PathLaws.{root-path}
-use Rattle.entries.proofs.Under.{Stands}
 use Rattle.entries.proofs.WordLaws.{wordType, word-same}
 use Rattle.entries.proofs.TypeSame.{type-same}
 
@@ -27,12 +27,9 @@ list-word : (s : List Node) (k : ℕ) → k ≤ lastWord s 1 → entryOf k (list
 unfolding listOf
 list-word s k h = entry-word (typeOf s) s 1 0 (suc (lastWord s 1)) k k (omega arith) (omega arith)
 
-root-stands : (s : List Node) → Formed s → Stands s [] 1
-root-stands s F = record { from = omega arith; within = F .some; path = root-path s }
-
 pub entry-same : (s s′ : List Node) → Formed s → Formed s′ → (k : ℕ) → k ≤ lastWord s 1 → k ≤ lastWord s′ 1 → AgreeAt k s s′
     → entryOf k (listOf s) ≡ entryOf k (listOf s′)
 entry-same s s′ F F′ k h h′ A =
     list-word s k h
-    ∙ word-same s s′ F F′ [] 1 1 (root-stands s F) (root-stands s′ F′) (typeOf s) (typeOf s′) k A (λ c c′ a S. type-same s s′ F F′ _ c c′ S)
+    ∙ word-same s s′ F F′ [] 1 1 (root-stands s (F .some)) (root-stands s′ (F′ .some)) (typeOf s) (typeOf s′) k A (λ c c′ a S. type-same s s′ F F′ _ c c′ S)
     ∙ sym (list-word s′ k h′)

@@ -1,4 +1,3 @@
-pub mod PathLaws
 mod Under
 mod ByKey
 mod Pairs

@@ -1,4 +1,5 @@
--- Where the facts below two nodes agree, the walks see the same children: their number, the last key and word, and a lone one's kind. Assumes nothing.
+-- Where the facts below two nodes agree, the walks see the same children: their number, the last key and word, and a
+-- lone one's kind. Assumes nothing.
 use Prim.Native.Nat.{ℕ, suc, _-_, _*_, _/_, max}
 use mathlib.Core.Path.{_≡_, refl, sym}
 use mathlib.Core.Bool.{cond, not, _&&_, _||_}
@@ -11,9 +12,10 @@ use Rattle.types.specs.Tree.{AbiTypes, elementary, array}
 use Rattle.facts.specs.Links.{In}
 use Rattle.facts.specs.Formed.{Formed}
 use Rattle.facts.specs.State.{Node, nodeOf}
+use Rattle.paths.proofs.Agreeing.{agree-down}
 use Rattle.list.specs.Seen.{childrenIn, isEmpty, isLonePlain, lastKey, lastWord}
 use Rattle.list.specs.Types.{uint256, nameHolds, endKey, startWord, wordCount, together, second, byKind}
-use Rattle.entries.proofs.Under.{Same, same-back, same-fields, agree-down, child-beside}
+use Rattle.entries.proofs.Under.{Same, same-back, same-fields, child-beside}
 use Rattle.entries.proofs.ByKey.{children-by-key, in-child, child-in}
 use Rattle.entries.proofs.Pairs.{Match, Paired, paired, empty-same, last-same, lone-same}
 

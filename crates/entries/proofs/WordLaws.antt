@@ -1,4 +1,5 @@
--- The words below two nodes: where the facts below a word agree, both have a type there or neither has, and it is the same. Assumes nothing.
+-- The words below two nodes: where the facts below a word agree, both have a type there or neither has, and it is the
+-- same. Assumes nothing.
 use Prim.Native.Nat.{ℕ, zero, suc, _*_, _≤_, _<_}
 use mathlib.Core.Path.{_≡_, refl, sym, ap, _∙_}
 use mathlib.Core.Bool.{Bool, true, false, false≢true, cond, not, and-eq-true-iff}
@@ -11,11 +12,14 @@ use Rattle.types.specs.Tree.{AbiType, cons}
 use Rattle.facts.specs.Formed.{Formed}
 use Rattle.facts.specs.State.{Node, nodeOf}
 use Rattle.paths.specs.Find.{findIn}
-use Rattle.paths.proofs.Lookups.{found-node, found-above, none-found}
+use Rattle.paths.specs.Path.{AgreeUnder}
+use Rattle.paths.proofs.Lookups.{found-node}
 use Rattle.paths.proofs.Sounds.{formed-ordered}
+use Rattle.paths.proofs.PathLaws.{Stands, child-found}
+use Rattle.paths.proofs.Agreeing.{agree-back, agree-down}
 use Rattle.list.specs.Types.{uint256, hasWord, wordsWith}
 use Rattle.list.proofs.TypeLaws.{found-range, has-found}
-use Rattle.entries.proofs.Under.{AgreeUnder, Stands, Same, SeenChild, Beside, agree-back, agree-down, child-beside}
+use Rattle.entries.proofs.Under.{Same, SeenChild, Beside, child-beside}
 
 module _ (s : List Node) (F : Formed s) (r w : ℕ) (r1 : 1 ≤ r) where
   -- a word that has a type has it from a seen child
@@ -33,21 +37,14 @@ module _ (s : List Node) (F : Formed s) (r w : ℕ) (r1 : 1 ≤ r) where
       }
 
   module _ (c : ℕ) (C : SeenChild s r (wordBytes * w) c) where
-    is-found : findIn s r (wordBytes * w) ≡ 0 → ⊥
-    is-found z =
-        let a = C .child .above in
-        none-found s r (wordBytes * w) z c (omega arith) (C .child .within) (C .child .parent) (C .key)
-
     found-it : findIn s r (wordBytes * w) ≡ c
     found-it =
-        let N = found-node s r (wordBytes * w) is-found in
         let a = C .child .above in
-        F .distinct (findIn s r (wordBytes * w)) c (found-above s r (wordBytes * w) (formed-ordered s F) r1 is-found) (N .high) (omega arith) (C .child .within)
-        (N .parent ∙ sym (C .child .parent)) (N .key ∙ sym (C .key))
+        child-found s F r (wordBytes * w) c r1 (omega arith) (C .child .within) (C .child .parent) (C .key)
 
     child-word : hasWord s r w ≡ true
     child-word =
-        rw (ne-eqb (findIn s r (wordBytes * w)) 0 is-found)
+        rw (ne-eqb (findIn s r (wordBytes * w)) 0 (λ z. let e = found-it in let a = C .child .above in omega arith))
         (eq-eqb (nodeOf s (findIn s r (wordBytes * w)) .seen) 1 (ap (λ (x : ℕ). nodeOf s x .seen) found-it ∙ C .seen))
 
 -- the type of a word, a child's by `type`

@@ -1,1 +1,2 @@
-// When two lists have the same entry: specs/ says when the facts of two states agree at and below a word, proofs/ has the theorem. There is no code here.
+// When two lists have the same entry: specs/ says what an entry is, proofs/ has the theorem, over facts that agree at
+// and below a word. There is no code here.

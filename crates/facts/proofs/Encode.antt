@@ -1,7 +1,7 @@
 -- A sound table is the one that its nodes stand for. Assumes nothing.
 use Prim.Native.Nat.{ℕ, zero, suc, _+_, _-_, _*_, _≤_, _<_}
 use mathlib.Core.Path.{_≡_, refl, sym, ap, _∙_}
-use mathlib.Core.Bool.{Bool, true, false}
+use mathlib.Core.Bool.{Bool, true, false, cond}
 use mathlib.Core.Logic.{_⊎_, inl, inr, ⊎-elim}
 use mathlib.Core.List.{List, [], _∷_, _++_}
 use native.Mathlib.Omega.{arith}
@@ -19,7 +19,7 @@ use Rattle.limits.specs.Limits.{recordWidth}
 use Rattle.facts.specs.Table.{fld, parentOf, childOf, nextOf, Blank}
 use Rattle.facts.specs.Sound.{Sound}
 use Rattle.facts.specs.Links.{Linked, In, Seg}
-use Rattle.facts.specs.State.{Node, nodeAt, nodes, bare, pick, ins, kids, kidsOf, nodeOf, kidsIn, headOr, choose, after, nextIn, row, rows, encode}
+use Rattle.facts.specs.State.{Node, nodeAt, nodes, bare, ins, kids, kidsOf, nodeOf, kidsIn, headOr, after, nextIn, row, rows, encode}
 
 pub length-nodes : (t : List ℕ) (n : ℕ) → length (nodes t n) ≡ n
 unfolding nodes
@@ -28,26 +28,28 @@ length-nodes t (suc n) = length-append (nodes t n) (nodeAt t (suc n) ∷ []) ∙
 
 pub nodes-get : (t : List ℕ) (n r : ℕ) → 1 ≤ r → r ≤ n → nodeOf (nodes t n) r ≡ nodeAt t r
 unfolding nodes nodeOf
-nodes-get t zero r r1 rn = absurd (omega arith)
-nodes-get t (suc n) r r1 rn = go (nodes-get t n r r1) (eq-or-lt-of-le rn)
+nodes-get t n zero r1 rn = absurd (omega arith)
+nodes-get t zero (suc i) r1 rn = absurd (omega arith)
+nodes-get t (suc n) (suc i) r1 rn = go (nodes-get t n (suc i) r1) (eq-or-lt-of-le rn)
   where
-    go : (r ≤ n → getD (nodes t n) (r - 1) (bare 0 0) ≡ nodeAt t r) → (r ≡ suc n) ⊎ (r < suc n) → getD (nodes t n ++ nodeAt t (suc n) ∷ []) (r - 1) (bare 0 0) ≡ nodeAt t r
-    go f (inl e) = rw e (getD-at (nodes t n) (nodeAt t (suc n)) [] (bare 0 0) (suc n - 1) (let q = length-nodes t n in omega arith))
-    go f (inr l) = List·getD-append (nodes t n) (nodeAt t (suc n) ∷ []) (bare 0 0) (r - 1) (let q = length-nodes t n in omega arith) ∙ f (omega arith)
+    go : (suc i ≤ n → getD (nodes t n) i (bare 0 0) ≡ nodeAt t (suc i)) → (suc i ≡ suc n) ⊎ (suc i < suc n)
+        → getD (nodes t n ++ nodeAt t (suc n) ∷ []) i (bare 0 0) ≡ nodeAt t (suc i)
+    go f (inl e) = let h : i ≡ n = omega arith in rw h (getD-at (nodes t n) (nodeAt t (suc n)) [] (bare 0 0) n (let q = length-nodes t n in omega arith))
+    go f (inr l) = List·getD-append (nodes t n) (nodeAt t (suc n) ∷ []) (bare 0 0) i (let q = length-nodes t n in omega arith) ∙ f (omega arith)
 
 -- the children depend on the keys and the parents alone
 module _ (key key′ : ℕ → ℕ) (parent parent′ : ℕ → ℕ) (p : ℕ) where
   ins-ext : (r : ℕ) (ms : List ℕ) → key r ≡ key′ r → ((m : ℕ) → In m ms → key m ≡ key′ m) → ins key r ms ≡ ins key′ r ms
   unfolding ins
   ins-ext r [] e f = refl
-  ins-ext r (m ∷ ms) e f = λ i. pick (ltb (e i) (f m (inl refl) i)) (r ∷ m ∷ ms) (m ∷ ins-ext r ms e (λ x j. f x (inr j)) i)
+  ins-ext r (m ∷ ms) e f = λ i. cond (ltb (e i) (f m (inl refl) i)) (r ∷ m ∷ ms) (m ∷ ins-ext r ms e (λ x j. f x (inr j)) i)
 
   ins-mem : (r z : ℕ) (ms : List ℕ) → In z (ins key r ms) → (z ≡ r) ⊎ In z ms
   unfolding ins
   ins-mem r z [] i = i
   ins-mem r z (m ∷ ms) i = go (ltb (key r) (key m)) (ins-mem r z ms) i
     where
-      go : (b : Bool) → (In z (ins key r ms) → (z ≡ r) ⊎ In z ms) → In z (pick b (r ∷ m ∷ ms) (m ∷ ins key r ms)) → (z ≡ r) ⊎ In z (m ∷ ms)
+      go : (b : Bool) → (In z (ins key r ms) → (z ≡ r) ⊎ In z ms) → In z (cond b (r ∷ m ∷ ms) (m ∷ ins key r ms)) → (z ≡ r) ⊎ In z (m ∷ ms)
       go true f j = j
       go false f (inl e) = inr (inl e)
       go false f (inr j) = ⊎-elim (λ (e : z ≡ r). inl e) (λ k. inr (inr k)) (f j)
@@ -58,7 +60,7 @@ module _ (key key′ : ℕ → ℕ) (parent parent′ : ℕ → ℕ) (p : ℕ) w
   kids-low (suc n) z i = go (eqb (parent (suc n)) p) (ltb p (suc n)) (kids-low n z) i
     where
       go : (a b : Bool) → (In z (kids key parent p n) → (1 ≤ z) × (z ≤ n))
-          → In z (pick a (pick b (ins key (suc n) (kids key parent p n)) (kids key parent p n)) (kids key parent p n)) → (1 ≤ z) × (z ≤ suc n)
+          → In z (cond a (cond b (ins key (suc n) (kids key parent p n)) (kids key parent p n)) (kids key parent p n)) → (1 ≤ z) × (z ≤ suc n)
       go true true f j = ⊎-elim (λ (w : z ≡ suc n). (omega arith, omega arith)) (λ k. let h = f k in (h .0, omega arith)) (ins-mem (suc n) z (kids key parent p n) j)
       go true false f j = let h = f j in (h .0, omega arith)
       go false b f j = let h = f j in (h .0, omega arith)
@@ -70,7 +72,7 @@ module _ (key key′ : ℕ → ℕ) (parent parent′ : ℕ → ℕ) (p : ℕ) w
       let e = kids-ext n (λ r r1 rn. f r r1 (omega arith)) (λ r r1 rn. g r r1 (omega arith)) in
       let q : ins key (suc n) (kids key parent p n) ≡ ins key′ (suc n) (kids key′ parent′ p n) =
       ins-ext (suc n) (kids key parent p n) (f (suc n) (omega arith) (omega arith)) (λ m i. let h = kids-low n m i in f m (h .0) (omega arith)) ∙ ap (ins key′ (suc n)) e in
-      λ i. pick (eqb (g (suc n) (omega arith) (omega arith) i) p) (pick (ltb p (suc n)) (q i) (e i)) (e i)
+      λ i. cond (eqb (g (suc n) (omega arith) (omega arith) i) p) (cond (ltb p (suc n)) (q i) (e i)) (e i)
 
 pub kids-nodes : (t : List ℕ) (u p : ℕ) → kidsIn (nodes t u) p ≡ kidsOf t u p
 unfolding kidsIn
@@ -87,7 +89,7 @@ after-is : (t : List ℕ) (c r : ℕ) (ms : List ℕ) → Seg t c ms 0 → In r 
 unfolding after
 after-is t c r (m ∷ ms) s i = go (eqb m r) refl (λ j. after-is t (nextOf t m) r ms (s .2) j) i
   where
-    go : (b : Bool) → eqb m r ≡ b → (In r ms → nextOf t r ≡ after r ms) → In r (m ∷ ms) → nextOf t r ≡ choose b (headOr ms) (after r ms)
+    go : (b : Bool) → eqb m r ≡ b → (In r ms → nextOf t r ≡ after r ms) → In r (m ∷ ms) → nextOf t r ≡ cond b (headOr ms) (after r ms)
     go true e f j = rw (sym (eqb-true m r e)) (head-is t (nextOf t m) ms (s .2))
     go false e f (inl q) = absurd (eqb-false m r e (sym q))
     go false e f (inr j) = f j
@@ -103,7 +105,7 @@ module _ (t : List ℕ) (u : ℕ) (L : Linked t u) where
       parent-is : nodeOf (nodes t u) r .parent ≡ parentOf t r
       parent-is = ap (λ (n : Node). n .parent) (nodes-get t u r r1 ru)
 
-      go : (b : Bool) → eqb r 1 ≡ b → choose b 0 (after r (kidsIn (nodes t u) (nodeOf (nodes t u) r .parent))) ≡ nextOf t r
+      go : (b : Bool) → eqb r 1 ≡ b → cond b 0 (after r (kidsIn (nodes t u) (nodeOf (nodes t u) r .parent))) ≡ nextOf t r
       go true e = sym (ap (λ (x : ℕ). nextOf t x) (eqb-true r 1 e) ∙ z)
       go false e =
           let n = eqb-false r 1 e in

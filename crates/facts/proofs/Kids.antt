@@ -1,7 +1,7 @@
 -- The chain of p is the list of its children in the order of their keys. Assumes nothing.
 use Prim.Native.Nat.{ℕ, zero, suc, _+_, _-_, _≤_, _<_}
 use mathlib.Core.Path.{_≡_, refl, sym, ap, _∙_, subst}
-use mathlib.Core.Bool.{Bool, true, false}
+use mathlib.Core.Bool.{Bool, true, false, cond}
 use mathlib.Core.Logic.{_⊎_, inl, inr, ⊎-elim}
 use mathlib.Core.List.{List, [], _∷_}
 use native.Mathlib.Omega.{arith}
@@ -11,7 +11,7 @@ use borrow.Author.Tests.{ltb-true, ltb-false, eqb-true, eqb-false}
 use Rattle.facts.proofs.Chains.{rising-low, linked-chained, rest}
 use Rattle.facts.specs.Table.{keyOf, parentOf, childOf}
 use Rattle.facts.specs.Links.{Kid, Linked, In, Seg, Rising}
-use Rattle.facts.specs.State.{pick, ins, kids, kidsOf}
+use Rattle.facts.specs.State.{ins, kids, kidsOf}
 
 -- two lists whose keys rise, with the same members, are equal
 pub rising-eq : (t : List ℕ) (a b : ℕ) (l m : List ℕ) → Rising t a l → Rising t b m → ((x : ℕ) → In x l → In x m) → ((x : ℕ) → In x m → In x l) → l ≡ m
@@ -40,7 +40,7 @@ module _ (t : List ℕ) where
   ins-in r z [] i = i
   ins-in r z (m ∷ ms) i = go (ltb (keyOf t r) (keyOf t m)) (ins-in r z ms) i
     where
-      go : (b : Bool) → (In z (ins (keyOf t) r ms) → (z ≡ r) ⊎ In z ms) → In z (pick b (r ∷ m ∷ ms) (m ∷ ins (keyOf t) r ms)) → (z ≡ r) ⊎ In z (m ∷ ms)
+      go : (b : Bool) → (In z (ins (keyOf t) r ms) → (z ≡ r) ⊎ In z ms) → In z (cond b (r ∷ m ∷ ms) (m ∷ ins (keyOf t) r ms)) → (z ≡ r) ⊎ In z (m ∷ ms)
       go true f j = j
       go false f (inl e) = inr (inl e)
       go false f (inr j) = ⊎-elim (λ (e : z ≡ r). inl e) (λ k. inr (inr k)) (f j)
@@ -50,7 +50,7 @@ module _ (t : List ℕ) where
   in-ins r z [] i = i
   in-ins r z (m ∷ ms) i = go (ltb (keyOf t r) (keyOf t m)) (in-ins r z ms) i
     where
-      go : (b : Bool) → ((z ≡ r) ⊎ In z ms → In z (ins (keyOf t) r ms)) → (z ≡ r) ⊎ In z (m ∷ ms) → In z (pick b (r ∷ m ∷ ms) (m ∷ ins (keyOf t) r ms))
+      go : (b : Bool) → ((z ≡ r) ⊎ In z ms → In z (ins (keyOf t) r ms)) → (z ≡ r) ⊎ In z (m ∷ ms) → In z (cond b (r ∷ m ∷ ms) (m ∷ ins (keyOf t) r ms))
       go true f j = j
       go false f (inl e) = inr (f (inl e))
       go false f (inr (inl e)) = inl e
@@ -62,7 +62,7 @@ module _ (t : List ℕ) where
   ins-rising b r (m ∷ ms) h k n = go (ltb (keyOf t r) (keyOf t m)) refl (λ l. ins-rising (keyOf t m + 1) r ms (h .1) l (λ x i. n x (inr i)))
     where
       go : (c : Bool) → ltb (keyOf t r) (keyOf t m) ≡ c → (keyOf t m + 1 ≤ keyOf t r → Rising t (keyOf t m + 1) (ins (keyOf t) r ms))
-          → Rising t b (pick c (r ∷ m ∷ ms) (m ∷ ins (keyOf t) r ms))
+          → Rising t b (cond c (r ∷ m ∷ ms) (m ∷ ins (keyOf t) r ms))
       go true e f = (k, (let l = ltb-true (keyOf t r) (keyOf t m) e in omega arith, h .1))
       go false e f = (h .0, f (let l = ltb-false (keyOf t r) (keyOf t m) e in let d = n m (inl refl) in omega arith))
 
@@ -77,7 +77,7 @@ module _ (t : List ℕ) where
         up K = record { above = K .above; used = let h = K .used in omega arith; parent = K .parent }
 
         go : (a : Bool) → eqb (parentOf t (suc n)) p ≡ a → (b : Bool) → ltb p (suc n) ≡ b → (In z (kids (keyOf t) (parentOf t) p n) → Kid t n p z)
-            → In z (pick a (pick b (ins (keyOf t) (suc n) (kids (keyOf t) (parentOf t) p n)) (kids (keyOf t) (parentOf t) p n)) (kids (keyOf t) (parentOf t) p n)) → Kid t (suc n) p z
+            → In z (cond a (cond b (ins (keyOf t) (suc n) (kids (keyOf t) (parentOf t) p n)) (kids (keyOf t) (parentOf t) p n)) (kids (keyOf t) (parentOf t) p n)) → Kid t (suc n) p z
         go true e true q f j = ⊎-elim
             (λ (w : z ≡ suc n). rw w (record { above = ltb-true p (suc n) q; used = omega arith; parent = eqb-true (parentOf t (suc n)) p e }))
             (λ k. up (f k)) (ins-in (suc n) z (kids (keyOf t) (parentOf t) p n) j)
@@ -93,7 +93,7 @@ module _ (t : List ℕ) where
         dn l = record { above = K .above; used = omega arith; parent = K .parent }
 
         go : (a : Bool) → eqb (parentOf t (suc n)) p ≡ a → (b : Bool) → ltb p (suc n) ≡ b → (Kid t n p z → In z (kids (keyOf t) (parentOf t) p n)) → (z ≡ suc n) ⊎ (z < suc n)
-            → In z (pick a (pick b (ins (keyOf t) (suc n) (kids (keyOf t) (parentOf t) p n)) (kids (keyOf t) (parentOf t) p n)) (kids (keyOf t) (parentOf t) p n))
+            → In z (cond a (cond b (ins (keyOf t) (suc n) (kids (keyOf t) (parentOf t) p n)) (kids (keyOf t) (parentOf t) p n)) (kids (keyOf t) (parentOf t) p n))
         go true e true q f (inl w) = in-ins (suc n) z (kids (keyOf t) (parentOf t) p n) (inl w)
         go true e true q f (inr l) = in-ins (suc n) z (kids (keyOf t) (parentOf t) p n) (inr (f (dn l)))
         go true e false q f (inl w) = let l = ltb-false p (suc n) q in let a = K .above in absurd (omega arith)
@@ -109,7 +109,7 @@ module _ (t : List ℕ) where
     kids-rising u one (suc n) h = go (eqb (parentOf t (suc n)) p) refl (ltb p (suc n)) refl (kids-rising u one n (omega arith))
       where
         go : (a : Bool) → eqb (parentOf t (suc n)) p ≡ a → (b : Bool) → ltb p (suc n) ≡ b → Rising t 0 (kids (keyOf t) (parentOf t) p n)
-            → Rising t 0 (pick a (pick b (ins (keyOf t) (suc n) (kids (keyOf t) (parentOf t) p n)) (kids (keyOf t) (parentOf t) p n)) (kids (keyOf t) (parentOf t) p n))
+            → Rising t 0 (cond a (cond b (ins (keyOf t) (suc n) (kids (keyOf t) (parentOf t) p n)) (kids (keyOf t) (parentOf t) p n)) (kids (keyOf t) (parentOf t) p n))
         go true e true q r = ins-rising 0 (suc n) (kids (keyOf t) (parentOf t) p n) r (omega arith)
             (λ m i k. let K = kids-in n m i in
             let J : Kid t u p m = record { above = K .above; used = let x = K .used in omega arith; parent = K .parent } in

@@ -25,7 +25,7 @@ use Rattle.facts.proofs.Whole.{fact-parts, bare-zeros, root-is, seen-un
 -- the node with number i + 1 stands at place i
 at : (s : List Node) (i : ℕ) → getD s i (bare 0 0) ≡ nodeOf s (suc i)
 unfolding nodeOf
-at s i = let e : i ≡ suc i - 1 = omega arith in ap (λ (j : ℕ). getD s j (bare 0 0)) e
+at s i = refl
 
 -- beyond the first of two lists
 over : (xs ys : List ℕ) (i d : ℕ) → getD (xs ++ ys) (length xs + i) d ≡ getD ys i d

@@ -1,4 +1,5 @@
--- What the code's tests of a record answer is what the definitions say: each law has the numbers read as its equations. Assumes nothing.
+-- What the code's tests of a record answer is what the definitions say: each law has the numbers read as its equations.
+-- Assumes nothing.
 use Prim.Native.Nat.{ℕ, _≤_, _<_}
 use mathlib.Core.Path.{_≡_, refl, sym, _∙_}
 use mathlib.Core.Bool.{Bool, true, false, not, cond, _&&_, _||_, and-true, and-false, and-eq-true-iff}

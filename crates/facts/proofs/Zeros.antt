@@ -1,4 +1,5 @@
--- Loops over zeros: one that stores zero in one place after the other, and one that tests whether all are zero. Assumes nothing.
+-- Loops over zeros: one that stores zero in one place after the other, and one that tests whether all are zero. Assumes
+-- nothing.
 use Prim.Native.Nat.{ℕ, _+_, _-_, _≤_, _<_}
 use mathlib.Core.Path.{_≡_, refl, sym, _∙_}
 use mathlib.Core.Bool.{Bool, true, false, true≢false}

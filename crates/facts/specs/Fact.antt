@@ -37,7 +37,8 @@ isCount n =
     cond (eqb (n .kind) kindArray) (between 1 arrayCountMax (n .count))
     (cond (eqb (n .kind) kindDynamic) (leb (n .count) dynamicCountMax) (eqb (n .count) 0))
 
--- "A record's name is 0 or a code other than 5 and tuples"; "uint and int have 8 to 256 bits in eights, fixed bytes 1 to 32."
+-- "A record's name is 0 or a code other than 5 and tuples"; "uint and int have 8 to 256 bits in eights, fixed bytes 1
+-- to 32."
 abbrev pub isNamed : Node → Bool
 isNamed n = eqb (n .name) noName || isName (n .name)
 

@@ -1,4 +1,5 @@
--- What a state meets by itself: question 2 said of nodes. A table is sound exactly when it is the table of such a state (`sound-exactly`), and that
+-- What a state meets by itself: question 2 said of nodes. A table is sound exactly when it is the table of such a state
+-- (`sound-exactly`), and that
 -- state is the one read off it (`state-is`). Assumes nothing: these are definitions.
 use Prim.Native.Nat.{ℕ, _≤_, _<_}
 use mathlib.Core.Path.{_≡_}

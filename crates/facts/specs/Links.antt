@@ -1,5 +1,7 @@
--- "Children of one record form a chain through next, keys strictly rising, zero ending the chain." Said twice: by whole chains (`Chained`, as the
--- document says it) and by what stands at each record (`Linked`, as the proofs use it); `chained-linked` and `linked-chained` show that they are
+-- "Children of one record form a chain through next, keys strictly rising, zero ending the chain." Said twice: by whole
+-- chains (`Chained`, as the
+-- document says it) and by what stands at each record (`Linked`, as the proofs use it); `chained-linked` and
+-- `linked-chained` show that they are
 -- one. u is the number of used records. Assumes nothing: these are definitions.
 use Prim.Native.Nat.{ℕ, _+_, _*_, _≤_, _<_}
 use mathlib.Core.Path.{_≡_}
@@ -37,7 +39,8 @@ pub record ChainOf (t : List ℕ) (u p : ℕ) : Type 0 where
   pub rising : Rising t 0 members
   pub kids : (m : ℕ) → In m members → Kid t u p m
 
--- "Each used record but the root stands exactly once in the chain of its parent, which has a lower number; a chain holds nothing else."
+-- "Each used record but the root stands exactly once in the chain of its parent, which has a lower number; a chain
+-- holds nothing else."
 -- (Once: no key stands twice in a chain, since keys rise: `stands-once`.)
 pub record Chained (t : List ℕ) (u : ℕ) : Type 0 where
   pub some : 1 ≤ u

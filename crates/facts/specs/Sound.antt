@@ -33,7 +33,8 @@ pub record Sound (t : List ℕ) (used N : ℕ) : Type 0 where
   pub beyond : (r : ℕ) → used < r → r ≤ N → Blank t r
   -- "Flags are 0 or 1."
   pub flags : Each t used areFlags
-  -- "Each used record but the root stands exactly once in the chain of its parent, which has a lower number; a chain holds nothing else."
+  -- "Each used record but the root stands exactly once in the chain of its parent, which has a lower number; a chain
+  -- holds nothing else."
   pub lower : (r : ℕ) → 1 < r → r ≤ used → (1 ≤ parentOf t r) × (parentOf t r < r)
   pub stands : (r : ℕ) → 1 < r → r ≤ used → (ms : List ℕ) × Seg t (childOf t (parentOf t r)) ms r
   -- "Children of one record form a chain through next, keys strictly rising, zero ending the chain."
@@ -47,7 +48,8 @@ pub record Sound (t : List ℕ) (used N : ℕ) : Type 0 where
   pub confidence : Each t used isConfidence
   -- "Count is 1 to 99 for an array, at most 134,217,727 for dynamic, else 0."
   pub count : Each t used isCount
-  -- "A record's name is 0 or a code other than 5 and tuples"; "uint and int have 8 to 256 bits in eights, fixed bytes 1 to 32."
+  -- "A record's name is 0 or a code other than 5 and tuples"; "uint and int have 8 to 256 bits in eights, fixed bytes 1
+  -- to 32."
   pub name : Each t used isNamed
   -- "The root is seen, otherwise zero but for child."
   pub root : Root t

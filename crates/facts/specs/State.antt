@@ -1,7 +1,8 @@
--- The state: "the paths so far as the used records", each with its fields, in the order of their numbers; and the table that a state stands for,
+-- The state: "the paths so far as the used records", each with its fields, in the order of their numbers; and the table
+-- that a state stands for,
 -- with child and next derived. Assumes nothing: these are definitions.
 use Prim.Native.Nat.{ℕ, zero, suc, _+_, _-_, _*_}
-use mathlib.Core.Bool.{Bool, true, false}
+use mathlib.Core.Bool.{cond}
 use mathlib.Core.List.{List, [], _∷_, _++_}
 use lib.ListN.{length, getD, replicate}
 use lib.Dec.{eqb, ltb}
@@ -47,9 +48,10 @@ unfoldable pub nodes : List ℕ → ℕ → List Node
 nodes t zero = []
 nodes t (suc u) = nodes t u ++ nodeAt t (suc u) ∷ []
 
--- the node with number r
+-- the node with number r; number 0 is none's
 unfoldable pub nodeOf : List Node → ℕ → Node
-nodeOf s r = getD s (r - 1) (bare 0 0)
+nodeOf s zero = bare 0 0
+nodeOf s (suc r) = getD s r (bare 0 0)
 
 -- the paths from the root, by number: a node's is its parent's with its key at the end
 abbrev pub pathsFrom : List (List ℕ) → List Node → List (List ℕ)
@@ -61,21 +63,17 @@ unfoldable pub paths : List Node → List (List ℕ)
 paths [] = []
 paths (n ∷ ns) = pathsFrom ([] ∷ []) ns
 
-abbrev pub pick : Bool → List ℕ → List ℕ → List ℕ
-pick true a b = a
-pick false a b = b
-
 -- the number r put in its place by key
 unfoldable pub ins : (ℕ → ℕ) → ℕ → List ℕ → List ℕ
 ins key r [] = r ∷ []
-ins key r (m ∷ ms) = pick (ltb (key r) (key m)) (r ∷ m ∷ ms) (m ∷ ins key r ms)
+ins key r (m ∷ ms) = cond (ltb (key r) (key m)) (r ∷ m ∷ ms) (m ∷ ins key r ms)
 
 -- the numbers up to n of the children of p, by rising key
 unfoldable pub kids : (ℕ → ℕ) → (ℕ → ℕ) → ℕ → ℕ → List ℕ
 kids key parent p zero = []
 kids key parent p (suc n) =
     let rest = kids key parent p n in
-    pick (eqb (parent (suc n)) p) (pick (ltb p (suc n)) (ins key (suc n) rest) rest) rest
+    cond (eqb (parent (suc n)) p) (cond (ltb p (suc n)) (ins key (suc n) rest) rest) rest
 
 -- the children of p in a state
 unfoldable pub kidsIn : List Node → ℕ → List ℕ
@@ -90,18 +88,14 @@ abbrev pub headOr : List ℕ → ℕ
 headOr [] = 0
 headOr (x ∷ xs) = x
 
-abbrev pub choose : Bool → ℕ → ℕ → ℕ
-choose true a b = a
-choose false a b = b
-
 -- the one after r, 0 without one
 unfoldable pub after : ℕ → List ℕ → ℕ
 after r [] = 0
-after r (x ∷ xs) = choose (eqb x r) (headOr xs) (after r xs)
+after r (x ∷ xs) = cond (eqb x r) (headOr xs) (after r xs)
 
 -- the next child of r's parent, 0 without one; the root has none
 unfoldable pub nextIn : List Node → ℕ → ℕ
-nextIn s r = choose (eqb r 1) 0 (after r (kidsIn s (nodeOf s r .parent)))
+nextIn s r = cond (eqb r 1) 0 (after r (kidsIn s (nodeOf s r .parent)))
 
 -- the numbers of record r, in the order of its fields
 unfoldable pub row : List Node → ℕ → List ℕ

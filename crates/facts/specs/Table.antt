@@ -1,4 +1,5 @@
--- "Fact table: records of 11, numbered from 1, 0 means none: key, parent, child, next, seen, not-bool, blocked, kind, count, name, confidence."
+-- "Fact table: records of 11, numbered from 1, 0 means none: key, parent, child, next, seen, not-bool, blocked, kind,
+-- count, name, confidence."
 -- A table is the list of its numbers. Assumes nothing: these are definitions.
 use Prim.Native.Nat.{ℕ, _+_, _-_, _*_, _≤_, _<_}
 use mathlib.Core.Path.{_≡_}
@@ -35,11 +36,13 @@ nextOf t r = fld t r field.next
 abbrev pub seenOf : List ℕ → ℕ → ℕ
 seenOf t r = fld t r field.seen
 
--- not-bool: 1 where the path was shown to be no bool. "Bool and range names stop at a not-bool mark before any record is made seen."
+-- not-bool: 1 where the path was shown to be no bool. "Bool and range names stop at a not-bool mark before any record
+-- is made seen."
 abbrev pub notBoolOf : List ℕ → ℕ → ℕ
 notBoolOf t r = fld t r field.notBool
 
--- blocked: the Rust's `range_blocked`, 1 where the path takes no range name any more. "A blocked range name stops after that."
+-- blocked: the Rust's `range_blocked`, 1 where the path takes no range name any more. "A blocked range name stops after
+-- that."
 abbrev pub blockedOf : List ℕ → ℕ → ℕ
 blockedOf t r = fld t r field.blocked
 

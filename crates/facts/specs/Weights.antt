@@ -1,5 +1,7 @@
--- What question 2's test of the chains adds up: records and the links that lead to them, each link as much as its record. `weighed-chained` shows
--- that the links lead to every record but the root just where both sides are equal. Assumes nothing: these are definitions.
+-- What question 2's test of the chains adds up: records and the links that lead to them, each link as much as its
+-- record. `weighed-chained` shows
+-- that the links lead to every record but the root just where both sides are equal. Assumes nothing: these are
+-- definitions.
 use Prim.Native.Nat.{ℕ, _+_, _^_, _≤_, _<_}
 use mathlib.Core.Path.{_≡_}
 use mathlib.Core.Bool.{cond}
@@ -25,7 +27,8 @@ weight t r = linkWeight + keyOf t r
 unfoldable pub linkTo : List ℕ → ℕ → ℕ
 linkTo t c = cond (eqb c 0) 0 (weight t c)
 
--- c, 0 for none, stands in the chain of p by its own fields: used, with the parent p; and it weighs more than the one before
+-- c, 0 for none, stands in the chain of p by its own fields: used, with the parent p; and it weighs more than the one
+-- before
 abbrev pub Leads : List ℕ → ℕ → ℕ → ℕ → ℕ → Type 0
 Leads t u p before c = (c ≡ 0 → ⊥) → (c ≤ u) × (parentOf t c ≡ p) × (before < weight t c)
 

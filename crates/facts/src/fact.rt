@@ -80,7 +80,8 @@ fn is_named(table: &[u32], r: u32) -> bool
     is_name(name)
 }
 
-// Does the record pass all of these? The first test that fails is the last one: in a sound table none does, so that the processor foresees the branches.
+// Does the record pass all of these? The first test that fails is the last one: in a sound table none does, so that the
+// processor foresees the branches.
 pub fn is_record(table: &[u32], r: u32) -> bool
     requires { ⌜ HasRecord (now table) r ⌝ }
     ensures { λ b. ⌜ b ≡ isRecord (nodeAt (now (table .entry)) r) ⌝ }

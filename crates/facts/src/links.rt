@@ -47,7 +47,8 @@ fn weight_of(table: &[u32], r: u32) -> u64
     LINK_WEIGHT + field(table, r, KEY) as u64
 }
 
-// What links of that weight come to with one more, to record c, 0 for none, which stands in the chain of p behind one that weighs so much. That its number is
+// What links of that weight come to with one more, to record c, 0 for none, which stands in the chain of p behind one
+// that weighs so much. That its number is
 // higher than its parent's is asked of each record by itself.
 fn with_link(table: &[u32], used: u32, p: u32, before: u64, c: u32, links: u64) -> Link
     requires { ⌜ used * recordWidth ≤ length (now table) ⌝ }
@@ -70,9 +71,12 @@ fn with_link(table: &[u32], used: u32, p: u32, before: u64, c: u32, links: u64) 
     Link::Weight(links + weight)
 }
 
-// Does each used record but the root stand once in the chain of its parent, and nothing else in a chain, and do all pass their tests? One pass in the order
-// of the numbers looks at each record's own links, so that no load waits for the one before. Each link weighs as much as the record that it leads to: a
-// record that stands in no chain either has no next one, and a link is missing, or leads to a higher key than its own, and the links weigh more.
+// Does each used record but the root stand once in the chain of its parent, and nothing else in a chain, and do all
+// pass their tests? One pass in the order
+// of the numbers looks at each record's own links, so that no load waits for the one before. Each link weighs as much
+// as the record that it leads to: a
+// record that stands in no chain either has no next one, and a link is missing, or leads to a higher key than its own,
+// and the links weigh more.
 pub fn are_chained_records(table: &[u32], used: u32) -> bool
     requires { ⌜ (1 ≤ used) × (used ≤ recordsMax) ⌝ }
     requires { ⌜ used * recordWidth ≤ length (now table) ⌝ }

@@ -12,7 +12,8 @@ use zeros::are_zero;
 // How many numbers a line of the processor's cache has.
 const LINE: usize = 16;
 
-// How many numbers are tested at a time: whole lines, and so many that the compiler writes the test out with no loop in it.
+// How many numbers are tested at a time: whole lines, and so many that the compiler writes the test out with no loop in
+// it.
 const BLOCK: usize = 16 * LINE;
 
 // How many of so many numbers stand before the next line.
@@ -23,7 +24,8 @@ fn before_line(start: usize, count: usize) -> usize
     if count < step { count } else { step }
 }
 
-// Is every number from that place on zero? Up to the next line first, so that each load lies within a line, then block by block, then what is left.
+// Is every number from that place on zero? Up to the next line first, so that each load lies within a line, then block
+// by block, then what is left.
 fn is_zero_from(table: &[u32], start: usize) -> bool
     requires { ⌜ start ≤ length (now table) ⌝ }
     ensures { λ b. ⌜ Tells b (ZeroFrom (now (table .entry)) start) ⌝ }
@@ -42,7 +44,8 @@ fn is_zero_from(table: &[u32], start: usize) -> bool
     are_zero(table, at, table.len() - at)
 }
 
-// Is a table of n records, as question 1 counts them, sound with that many used? It may hold any numbers; the time is linear in its length.
+// Is a table of n records, as question 1 counts them, sound with that many used? It may hold any numbers; the time is
+// linear in its length.
 pub fn is_sound(table: &[u32], n: u32, used: u32) -> bool
     requires { ⌜ Counted (length (now table)) n ⌝ }
     ensures { λ b. ⌜ Tells b (Sound (now (table .entry)) used n) ⌝ }

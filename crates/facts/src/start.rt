@@ -6,8 +6,8 @@ ghost use Rattle.facts.specs.Fresh.{freshTable, numberOf};
 use crate::Records;
 use crate::count::record_count;
 use crate::table::set_field;
+use limits::Refusal;
 use limits::fields::SEEN;
-use limits::questions::COUNT_QUESTION;
 use limits::questions::TAKEN;
 
 // Stores zero everywhere.
@@ -41,6 +41,6 @@ pub fn number_of(records: Records) -> u32
 {
     match records {
         Records::Count(n) => TAKEN,
-        Records::Unfit => COUNT_QUESTION,
+        Records::Unfit => limits::number_of(Refusal::NoRecords),
     }
 }

@@ -1,7 +1,7 @@
 -- A fact's seen children, one record of the chain a turn. Assumes nothing.
 use Prim.Native.Nat.{ℕ, zero, suc, _+_, _/_, _≤_, _<_, _^_, max}
 use mathlib.Core.Path.{_≡_, refl, sym, ap, _∙_}
-use mathlib.Core.Bool.{Bool, true, false, _&&_}
+use mathlib.Core.Bool.{Bool, true, false, _&&_, cond}
 use mathlib.Core.List.{List, [], _∷_}
 use native.Mathlib.Omega.{arith}
 use lib.Dec.{eqb, ltb}
@@ -9,7 +9,7 @@ use lib.ListN.{length}
 use borrow.Author.Tests.{eq-eqb, ne-eqb}
 use Rattle.limits.specs.Limits.{wordBytes}
 use Rattle.facts.specs.Table.{keyOf, childOf, nextOf, seenOf, kindOf, countOf}
-use Rattle.facts.specs.State.{Node, nodes, nodeOf, pick, ins, kids, kidsIn, kidsOf}
+use Rattle.facts.specs.State.{Node, nodes, nodeOf, ins, kids, kidsIn, kidsOf}
 use Rattle.facts.proofs.Encode.{length-nodes, nodes-get, kids-nodes}
 use Rattle.paths.specs.Shape.{Shaped}
 use Rattle.paths.proofs.Tail.{Tail, More, tail-more, tail-none, tail-start, tail-kid}
@@ -22,7 +22,7 @@ unfolding ins
 ins-length key r [] = refl
 ins-length key r (m ∷ ms) = go (ltb (key r) (key m)) (ins-length key r ms)
   where
-    go : (b : Bool) → length (ins key r ms) ≡ suc (length ms) → length (pick b (r ∷ m ∷ ms) (m ∷ ins key r ms)) ≡ suc (length (m ∷ ms))
+    go : (b : Bool) → length (ins key r ms) ≡ suc (length ms) → length (cond b (r ∷ m ∷ ms) (m ∷ ins key r ms)) ≡ suc (length (m ∷ ms))
     go true e = refl
     go false e = ap suc e
 
@@ -32,7 +32,7 @@ kids-length key parent p zero = omega arith
 kids-length key parent p (suc n) = go (eqb (parent (suc n)) p) (ltb p (suc n)) (kids-length key parent p n)
   where
     go : (a b : Bool) → length (kids key parent p n) ≤ n
-        → length (pick a (pick b (ins key (suc n) (kids key parent p n)) (kids key parent p n)) (kids key parent p n)) ≤ suc n
+        → length (cond a (cond b (ins key (suc n) (kids key parent p n)) (kids key parent p n)) (kids key parent p n)) ≤ suc n
     go true true h = let e = ins-length key (suc n) (kids key parent p n) in omega arith
     go true false h = omega arith
     go false b h = omega arith

@@ -1,4 +1,5 @@
--- The type of a fact in terms of its children's types: how many levels are allowed tells nothing, once there are enough. Assumes nothing.
+-- The type of a fact in terms of its children's types: how many levels are allowed tells nothing, once there are
+-- enough. Assumes nothing.
 use Prim.Native.Nat.{ℕ, zero, suc, _-_, _*_, _/_, _≤_, _<_, max}
 use mathlib.Core.Path.{_≡_, refl, ap}
 use mathlib.Core.Bool.{Bool, true, false, false≢true, cond, not, _&&_}

@@ -1,4 +1,5 @@
--- The budget: "`fits_type_budget` starts at depth 0 with 8,192. A node costs one more than its last word .. left is 8,192 less the sum." Assumes nothing: these are
+-- The budget: "`fits_type_budget` starts at depth 0 with 8,192. A node costs one more than its last word .. left is
+-- 8,192 less the sum." Assumes nothing: these are
 -- definitions.
 use Prim.Native.Nat.{ℕ, zero, suc, _+_}
 use mathlib.Core.Bool.{Bool, true, cond, not, _&&_, _||_}

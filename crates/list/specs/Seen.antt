@@ -1,4 +1,5 @@
--- What the walks over the facts look at: a fact's seen children. "A record that isn't seen is no node of `Info`", so it is passed over here. Assumes nothing:
+-- What the walks over the facts look at: a fact's seen children. "A record that isn't seen is no node of `Info`", so it
+-- is passed over here. Assumes nothing:
 -- these are definitions.
 use Prim.Native.Nat.{ℕ, _/_, max}
 use mathlib.Core.Bool.{Bool, true, false, cond}
@@ -30,7 +31,8 @@ lastFrom s k (r ∷ rs) = lastFrom s (nodeOf s r .key) rs
 abbrev pub lastKey : List Node → ℕ → ℕ
 lastKey s r = lastFrom s 0 (childrenIn s r)
 
--- "its last word, the larger of its last seen child's key / 32 (rounded down, 0 without one) and its count" (a count is 0 without a kind)
+-- "its last word, the larger of its last seen child's key / 32 (rounded down, 0 without one) and its count" (a count is
+-- 0 without a kind)
 unfoldable pub lastWord : List Node → ℕ → ℕ
 lastWord s r = max (lastKey s r / wordBytes) (nodeOf s r .count)
 

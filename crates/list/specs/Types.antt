@@ -16,8 +16,9 @@ use Rattle.list.specs.Seen.{childrenIn, isEmpty, isLonePlain, lastKey, l
 abbrev pub uint256 : AbiType
 uint256 = elementary (uint 256)
 
--- is the name the type? bytes with kind none or dynamic 1, whatever the children; any other name with no children and kind none or dynamic. (The Rust lets bytes hold
--- with an array of count 0 too, which question 2 refuses.)
+-- is the name the type? bytes with kind none or dynamic 1, whatever the children; any other name with no children and
+-- kind none or dynamic. (The Rust lets bytes hold with an array of count 0 too, which question 2 refuses:
+-- decision D44.)
 unfoldable pub nameHolds : Node → Bool → Bool
 nameHolds n childless =
     cond (eqb (n .name) code.bytes)
@@ -36,7 +37,8 @@ startWord n = cond (eqb (n .kind) kindArray) 1 0
 abbrev pub wordCount : List Node → ℕ → ℕ
 wordCount s r = suc (lastWord s r) - startWord (nodeOf s r)
 
--- the types of the words as one: a single one is itself, more are a tuple. (No word at all is never asked: an array's count is 1 at least.)
+-- the types of the words as one: a single one is itself, more are a tuple. (No word at all is never asked: an array's
+-- count is 1 at least.)
 abbrev pub together : AbiTypes → AbiType
 together nil = uint256
 together (cons t nil) = t

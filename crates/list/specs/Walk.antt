@@ -1,4 +1,5 @@
--- The sum and the depth once more, at a fact and below it, as a walk that goes from a fact to its children comes to them. (`spend-walk`, `shallow-walk`: from the root
+-- The sum and the depth once more, at a fact and below it, as a walk that goes from a fact to its children comes to
+-- them. (`spend-walk`, `shallow-walk`: from the root
 -- they are the sum and the depth over all facts.) Assumes nothing: these are definitions.
 use Prim.Native.Nat.{ℕ, zero, suc, _+_}
 use mathlib.Core.Bool.{Bool, true, cond, not, _&&_, _||_}

@@ -1,4 +1,5 @@
-// What the closing's walks look at: a fact's seen children. specs/ has the budget and the list, as definitions over the facts.
+// What the closing's walks look at: a fact's seen children. specs/ has the budget and the list, as definitions over the
+// facts.
 mod seen;
 
 pub use seen::is_childless;

@@ -28,20 +28,8 @@ alike-adds s p k s′ A = record {
   find-else = λ p′ k′ n. alike-find (ensure s p k .state) s′ A p′ k′ ∙ find-ensure s p k p′ k′ n;
 }
 
--- what the number stands for: the path of p with the key k at its end
-pub alike-path : (s : List Node) (p k : ℕ) (s′ : List Node) → Ordered s → 1 ≤ p → p ≤ length s → Alike (ensure s p k .state) s′
-    → getD (paths s′) (findIn s′ p k - 1) [] ≡ getD (paths s) (p - 1) [] ++ k ∷ []
-alike-path s p k s′ O p1 ps A =
-    (λ i. getD (alike-paths (ensure s p k .state) s′ A i) (alike-adds s p k s′ A .find i - 1) []) ∙ ensure-path s p k O p1 ps
-
-pub adds-ensure : (s : List Node) (p k : ℕ) → AddsPath s p k (ensure s p k .state)
-adds-ensure s p k = alike-adds s p k (ensure s p k .state) (alike-refl (ensure s p k .state))
-
 pub adds-create : (s : List Node) (p k : ℕ) → AddsPath s p k (getOrCreate s p k .state)
 adds-create s p k = alike-adds s p k (getOrCreate s p k .state) (alike-create s p k)
-
-pub same-seen : (s : List Node) (r : ℕ) → SamePaths s (makeSeen s r)
-same-seen s r = alike-same s (makeSeen s r) (alike-seen s r)
 
 -- what a second operation then adds: nothing for the same path, and as much as before for another one
 module _ (s : List Node) (p k : ℕ) (s′ : List Node) (A : AddsPath s p k s′) where
@@ -56,8 +44,3 @@ module _ (s : List Node) (p k : ℕ) (s′ : List Node) (A : AddsPath s p k s′
 pub same-missing : (s s′ : List Node) → SamePaths s s′ → (p k : ℕ) → missing s′ p k ≡ missing s p k
 unfolding missing
 same-missing s s′ A p k = ap (λ (r : ℕ). cond (eqb r 0) 1 0) (A .find p k)
-
--- and one for a path below one that has just been made
-pub new-missing : (s : List Node) (p k : ℕ) → Ordered s → length s ≤ p → missing s p k ≡ 1
-unfolding missing
-new-missing s p k O h = rw (none-under-last s p k O h) refl

@@ -1,4 +1,5 @@
--- States with the same paths: a change that keeps each node's key and parent keeps numbers, paths and lookups. Assumes nothing.
+-- States with the same paths: a change that keeps each node's key and parent keeps numbers, paths and lookups. Assumes
+-- nothing.
 use Prim.Native.Nat.{ℕ, zero, suc, _+_, _-_, _≤_}
 use mathlib.Core.Path.{_≡_, refl, sym, ap, _∙_}
 use mathlib.Core.Bool.{Bool, true, false, cond, _&&_}
@@ -31,9 +32,6 @@ alike-trans a b c A B = record {
   parent = λ q. B .parent q ∙ A .parent q;
 }
 
-pub alike-sym : (s s′ : List Node) → Alike s s′ → Alike s′ s
-alike-sym s s′ A = record { size = sym (A .size); key = λ q. sym (A .key q); parent = λ q. sym (A .parent q) }
-
 -- either way alike
 pub alike-cond : (s : List Node) (b : Bool) (x y : List Node) → Alike s x → Alike s y → Alike s (cond b x y)
 alike-cond s true x y A B = A
@@ -57,7 +55,8 @@ alike-create s p k = alike-seen (ensure s p k .state) (ensure s p k .number)
 -- a change of each node
 pub map-node : (f : Node → Node) → f (bare 0 0) ≡ bare 0 0 → (s : List Node) (q : ℕ) → nodeOf (map f s) q ≡ f (nodeOf s q)
 unfolding nodeOf
-map-node f e s q = ap (getD (map f s) (q - 1)) (sym e) ∙ List·getD-map f s (q - 1) (bare 0 0)
+map-node f e s zero = sym e
+map-node f e s (suc q) = ap (getD (map f s) q) (sym e) ∙ List·getD-map f s q (bare 0 0)
 
 pub alike-map : (f : Node → Node) → f (bare 0 0) ≡ bare 0 0 → ((n : Node) → f n .key ≡ n .key) → ((n : Node) → f n .parent ≡ n .parent)
     → (s : List Node) → Alike s (map f s)
@@ -76,7 +75,8 @@ module _ (g : Node → ℕ) where
   by-number : (s s′ : List Node) → ((i : ℕ) → g (getD s′ i (bare 0 0)) ≡ g (getD s i (bare 0 0))) → (q : ℕ)
       → g (nodeOf s′ q) ≡ g (nodeOf s q)
   unfolding nodeOf
-  by-number s s′ h q = h (q - 1)
+  by-number s s′ h zero = refl
+  by-number s s′ h (suc q) = h q
 
   add-part : (s s′ : List Node) (n : Node) → length s′ ≡ length s → ((i : ℕ) → g (getD s′ i (bare 0 0)) ≡ g (getD s i (bare 0 0)))
       → (i : ℕ) → g (getD (s′ ++ n ∷ []) i (bare 0 0)) ≡ g (getD (s ++ n ∷ []) i (bare 0 0))

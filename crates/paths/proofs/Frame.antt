@@ -1,5 +1,5 @@
 -- A store to a field that is no link: it keeps the links, and changes one field of one node. Assumes nothing.
-use Prim.Native.Nat.{ℕ, suc, _+_, _-_, _*_, _≤_, _<_}
+use Prim.Native.Nat.{ℕ, zero, suc, _+_, _*_, _≤_, _<_}
 use mathlib.Core.Path.{_≡_, refl, sym, ap, _∙_}
 use mathlib.Core.Bool.{Bool, true, false, cond}
 use mathlib.Core.List.{List}
@@ -94,28 +94,29 @@ node-other t r f v s r1 fl s1 n =
 -- the node with number i + 1 stands at place i
 pub at : (s : List Node) (i : ℕ) → getD s i (bare 0 0) ≡ nodeOf s (suc i)
 unfolding nodeOf
-at s i = let e : i ≡ suc i - 1 = omega arith in ap (λ (j : ℕ). getD s j (bare 0 0)) e
+at s i = refl
 
 nodes-put : (t : List ℕ) (u r f v : ℕ) → 1 ≤ r → r ≤ u → u * recordWidth ≤ length t → 3 < f → f < recordWidth → nodes (put t r f v) u ≡ update (nodes t u) r f v
 unfolding update
-nodes-put t u r f v r1 ru w f3 fl =
-    ext-getD (bare 0 0) (nodes (put t r f v) u) (set (nodes t u) (r - 1) (withField f v (nodeOf (nodes t u) r)))
-    (length-nodes (put t r f v) u ∙ sym (length-nodes t u) ∙ sym (length-set (nodes t u) (r - 1) (withField f v (nodeOf (nodes t u) r))))
-    (λ i h. go i (let l = length-nodes (put t r f v) u in omega arith) (ℕ-discrete i (r - 1)))
+nodes-put t u zero f v r1 ru w f3 fl = absurd (omega arith)
+nodes-put t u (suc c) f v r1 ru w f3 fl =
+    ext-getD (bare 0 0) (nodes (put t (suc c) f v) u) (set (nodes t u) c (withField f v (nodeOf (nodes t u) (suc c))))
+    (length-nodes (put t (suc c) f v) u ∙ sym (length-nodes t u) ∙ sym (length-set (nodes t u) c (withField f v (nodeOf (nodes t u) (suc c)))))
+    (λ i h. go i (let l = length-nodes (put t (suc c) f v) u in omega arith) (ℕ-discrete i c))
   where
-    go : (i : ℕ) → i < u → Dec (i ≡ r - 1) → getD (nodes (put t r f v) u) i (bare 0 0) ≡ getD (set (nodes t u) (r - 1) (withField f v (nodeOf (nodes t u) r))) i (bare 0 0)
+    go : (i : ℕ) → i < u → Dec (i ≡ c) → getD (nodes (put t (suc c) f v) u) i (bare 0 0) ≡ getD (set (nodes t u) c (withField f v (nodeOf (nodes t u) (suc c)))) i (bare 0 0)
     go i h (yes e) =
-        let q : suc i ≡ r = omega arith in
+        let q : suc i ≡ suc c = omega arith in
         let l = length-nodes t u in
-        at (nodes (put t r f v) u) i ∙ ap (nodeOf (nodes (put t r f v) u)) q ∙ nodes-get (put t r f v) u r r1 ru
-        ∙ node-put t r f v r1 (omega arith) f3 fl ∙ ap (withField f v) (sym (nodes-get t u r r1 ru))
-        ∙ sym (getD-set-same (nodes t u) (r - 1) (withField f v (nodeOf (nodes t u) r)) (bare 0 0) (omega arith))
-        ∙ ap (λ (j : ℕ). getD (set (nodes t u) (r - 1) (withField f v (nodeOf (nodes t u) r))) j (bare 0 0)) (sym e)
+        at (nodes (put t (suc c) f v) u) i ∙ ap (nodeOf (nodes (put t (suc c) f v) u)) q ∙ nodes-get (put t (suc c) f v) u (suc c) r1 ru
+        ∙ node-put t (suc c) f v r1 (omega arith) f3 fl ∙ ap (withField f v) (sym (nodes-get t u (suc c) r1 ru))
+        ∙ sym (getD-set-same (nodes t u) c (withField f v (nodeOf (nodes t u) (suc c))) (bare 0 0) (omega arith))
+        ∙ ap (λ (j : ℕ). getD (set (nodes t u) c (withField f v (nodeOf (nodes t u) (suc c)))) j (bare 0 0)) (sym e)
     go i h (no n) =
-        at (nodes (put t r f v) u) i ∙ nodes-get (put t r f v) u (suc i) (omega arith) (omega arith)
-        ∙ node-other t r f v (suc i) r1 fl (omega arith) (λ e. n (omega arith))
+        at (nodes (put t (suc c) f v) u) i ∙ nodes-get (put t (suc c) f v) u (suc i) (omega arith) (omega arith)
+        ∙ node-other t (suc c) f v (suc i) r1 fl (omega arith) (λ e. n (omega arith))
         ∙ sym (nodes-get t u (suc i) (omega arith) (omega arith)) ∙ sym (at (nodes t u) i)
-        ∙ sym (getD-set-other (nodes t u) (r - 1) i (withField f v (nodeOf (nodes t u) r)) (bare 0 0) n)
+        ∙ sym (getD-set-other (nodes t u) c i (withField f v (nodeOf (nodes t u) (suc c))) (bare 0 0) n)
 
 -- a table is the one that its state stands for
 pub shaped-encode : (t : List ℕ) (used N : ℕ) → Shaped t used N → t ≡ encode N (nodes t used)

@@ -22,18 +22,25 @@ set-part g (x ∷ s) zero (suc j) n d e = refl
 set-part g (x ∷ s) (suc i) zero n d e = refl
 set-part g (x ∷ s) (suc i) (suc j) n d e = set-part g s i j n d e
 
+part-update : (g : Node → ℕ) (s : List Node) (r f v q : ℕ) → ((n : Node) → g (withField f v n) ≡ g n) → g (nodeOf (update s r f v) q) ≡ g (nodeOf s q)
+unfolding update nodeOf
+part-update g s zero f v q e = refl
+part-update g s (suc r) f v zero e = refl
+part-update g s (suc r) f v (suc q) e = set-part g s r q (withField f v (nodeOf s (suc r))) (bare 0 0) (e (nodeOf s (suc r)))
+
 -- keys and parents never change
 pub update-key : (s : List Node) (r f v q : ℕ) → nodeOf (update s r f v) q .key ≡ nodeOf s q .key
-unfolding update nodeOf withField
-update-key s r f v q = set-part (λ n. n .key) s (r - 1) (q - 1) (withField f v (nodeOf s r)) (bare 0 0) refl
+unfolding withField
+update-key s r f v q = part-update (λ n. n .key) s r f v q (λ n. refl)
 
 pub update-parent : (s : List Node) (r f v q : ℕ) → nodeOf (update s r f v) q .parent ≡ nodeOf s q .parent
-unfolding update nodeOf withField
-update-parent s r f v q = set-part (λ n. n .parent) s (r - 1) (q - 1) (withField f v (nodeOf s r)) (bare 0 0) refl
+unfolding withField
+update-parent s r f v q = part-update (λ n. n .parent) s r f v q (λ n. refl)
 
 pub length-update : (s : List Node) (r f v : ℕ) → length (update s r f v) ≡ length s
 unfolding update
-length-update s r f v = length-set s (r - 1) (withField f v (nodeOf s r))
+length-update s zero f v = refl
+length-update s (suc r) f v = length-set s r (withField f v (nodeOf s (suc r)))
 
 -- paths depend on keys and parents alone
 set-from : (ps : List (List ℕ)) (s : List Node) (i : ℕ) (n d : Node) → n .key ≡ getD s i d .key → n .parent ≡ getD s i d .parent → pathsFrom ps (set s i n) ≡ pathsFrom ps s
@@ -49,7 +56,8 @@ set-paths (x ∷ s) (suc i) n d e q = set-from ([] ∷ []) s i n d e q
 
 pub paths-update : (s : List Node) (r f v : ℕ) → paths (update s r f v) ≡ paths s
 unfolding update nodeOf withField
-paths-update s r f v = set-paths s (r - 1) (withField f v (nodeOf s r)) (bare 0 0) refl refl
+paths-update s zero f v = refl
+paths-update s (suc r) f v = set-paths s r (withField f v (nodeOf s (suc r))) (bare 0 0) refl refl
 
 -- what a turn of `seenUp` keeps, all of its turns keep
 up-keeps : (P : List Node → Type 0) → ((s : List Node) (r : ℕ) → P s → P (update s r field.seen 1)) → (n : ℕ) (s : List Node) (r : ℕ) → P s → P (seenUp n s r)
@@ -87,7 +95,9 @@ set-seen (x ∷ s) (suc i) (suc j) n d e h = set-seen s i j n d e h
 
 pub update-seen : (s : List Node) (r q : ℕ) → nodeOf s q .seen ≡ 1 → nodeOf (update s r field.seen 1) q .seen ≡ 1
 unfolding update nodeOf withField
-update-seen s r q h = set-seen s (r - 1) (q - 1) (withField field.seen 1 (nodeOf s r)) (bare 0 0) refl h
+update-seen s zero q h = h
+update-seen s (suc r) zero h = h
+update-seen s (suc r) (suc q) h = set-seen s r q (withField field.seen 1 (nodeOf s (suc r))) (bare 0 0) refl h
 
 pub seen-stays : (s : List Node) (r q : ℕ) → nodeOf s q .seen ≡ 1 → nodeOf (makeSeen s r) q .seen ≡ 1
 seen-stays s r q h = seen-keeps (λ x. nodeOf x q .seen ≡ 1) (λ x c e. update-seen x c q e) s r h
@@ -95,8 +105,9 @@ seen-stays s r q h = seen-keeps (λ x. nodeOf x q .seen ≡ 1) (λ x c e. update
 -- and the path is seen
 pub now-seen : (s : List Node) (r : ℕ) → 1 ≤ r → r ≤ length s → nodeOf (update s r field.seen 1) r .seen ≡ 1
 unfolding update nodeOf withField
-now-seen s r r1 h =
-    ap (λ (n : Node). n .seen) (getD-set-same s (r - 1) (withField field.seen 1 (nodeOf s r)) (bare 0 0) (omega arith))
+now-seen s zero r1 h = absurd (omega arith)
+now-seen s (suc r) r1 h =
+    ap (λ (n : Node). n .seen) (getD-set-same s r (withField field.seen 1 (nodeOf s (suc r))) (bare 0 0) (omega arith))
 
 up-seen : (n : ℕ) (s : List Node) (r : ℕ) → 1 ≤ r → r ≤ length s → 1 ≤ n → nodeOf (seenUp n s r) r .seen ≡ 1
 unfolding seenUp
@@ -154,12 +165,8 @@ unfolding getOrCreate
 paths-create s p k = ap (take (length s)) (paths-seen (ensure s p k .state) (ensure s p k .number)) ∙ paths-ensure s p k
 
 -- making seen changes nothing else of a node
-part-update : (g : Node → ℕ) → ((n : Node) → g (withField field.seen 1 n) ≡ g n) → (s : List Node) (r q : ℕ) → g (nodeOf (update s r field.seen 1) q) ≡ g (nodeOf s q)
-unfolding update nodeOf
-part-update g e s r q = set-part g s (r - 1) (q - 1) (withField field.seen 1 (nodeOf s r)) (bare 0 0) (e (nodeOf s r))
-
 part-seen : (g : Node → ℕ) → ((n : Node) → g (withField field.seen 1 n) ≡ g n) → (s : List Node) (r q : ℕ) → g (nodeOf (makeSeen s r) q) ≡ g (nodeOf s q)
-part-seen g e s r q = seen-keeps (λ x. g (nodeOf x q) ≡ g (nodeOf s q)) (λ x c h. part-update g e x c q ∙ h) s r refl
+part-seen g e s r q = seen-keeps (λ x. g (nodeOf x q) ≡ g (nodeOf s q)) (λ x c h. part-update g x c field.seen 1 q e ∙ h) s r refl
 
 pub seen-else : (s : List Node) (r q : ℕ) → nodeOf (makeSeen s r) q ≡ withField field.seen (nodeOf (makeSeen s r) q .seen) (nodeOf s q)
 unfolding withField

@@ -13,3 +13,7 @@ pub mod Alike
 pub mod Lookups
 pub mod Sounds
 pub mod Adds
+pub mod PathLaws
+pub mod Keys
+pub mod Agreeing
+pub mod Changing

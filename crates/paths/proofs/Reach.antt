@@ -7,6 +7,7 @@ use mathlib.Core.List.{List, [], _∷_, _++_}
 use native.Mathlib.Omega.{arith}
 use native.Mathlib.Nat.{eq-or-lt-of-le}
 use native.Mathlib.Decide.{ℕ-discrete}
+use native.Mathlib.Numerals.{add-one}
 use lib.Dec.{eqb}
 use lib.ListN.{length, getD, length-append, List·getD-append}
 use lib.Seq.{getD-at, getD-set-other}
@@ -58,7 +59,7 @@ from-path ps (n ∷ s) d (suc j) h l =
 
 node-at : (m : Node) (s : List Node) (j : ℕ) → getD s j (bare 0 0) ≡ nodeOf (m ∷ s) (suc (suc j))
 unfolding nodeOf
-node-at m s j = let e : suc j ≡ suc (suc j) - 1 = omega arith in ap (λ (i : ℕ). getD (m ∷ s) i (bare 0 0)) e
+node-at m s j = refl
 
 pub path-of : (s : List Node) (r : ℕ) → Ordered s → 1 < r → r ≤ length s
     → getD (paths s) (r - 1) [] ≡ getD (paths s) (nodeOf s r .parent - 1) [] ++ nodeOf s r .key ∷ []
@@ -140,7 +141,9 @@ record UnderBut (c : ℕ) (s : List Node) : Type 0 where
 
 pub update-other : (s : List Node) (r f v q : ℕ) → 1 ≤ r → 1 ≤ q → (q ≡ r → ⊥) → nodeOf (update s r f v) q ≡ nodeOf s q
 unfolding update nodeOf
-update-other s r f v q r1 q1 n = getD-set-other s (r - 1) (q - 1) (withField f v (nodeOf s r)) (bare 0 0) (λ e. n (omega arith))
+update-other s zero f v q r1 q1 n = refl
+update-other s (suc r) f v zero r1 q1 n = refl
+update-other s (suc r) f v (suc q) r1 q1 n = getD-set-other s r q (withField f v (nodeOf s (suc r))) (bare 0 0) (λ e. n (ap suc e))
 
 pub ordered-update : (s : List Node) (r f v : ℕ) → Ordered s → Ordered (update s r f v)
 ordered-update s r f v O = record {
@@ -218,11 +221,12 @@ ensure-range s p k = go (eqb (findTo s p k (length s)) 0) refl
 -- the nodes that were there stay as they are
 pub add-node : (s : List Node) (n : Node) (q : ℕ) → 1 ≤ q → q ≤ length s → nodeOf (s ++ n ∷ []) q ≡ nodeOf s q
 unfolding nodeOf
-add-node s n q q1 h = List·getD-append s (n ∷ []) (bare 0 0) (q - 1) (omega arith)
+add-node s n zero q1 h = refl
+add-node s n (suc q) q1 h = List·getD-append s (n ∷ []) (bare 0 0) q (omega arith)
 
 pub last-node : (s : List Node) (n : Node) → nodeOf (s ++ n ∷ []) (length s + 1) ≡ n
 unfolding nodeOf
-last-node s n = getD-at s n [] (bare 0 0) (length s + 1 - 1) (omega arith)
+last-node s n = ap (nodeOf (s ++ n ∷ [])) (add-one (length s)) ∙ getD-at s n [] (bare 0 0) (length s) refl
 
 -- the number that is made is that of a node with the parent p and the key k
 pub ensure-named : (s : List Node) (p k : ℕ) → Named (ensure s p k .state) p k (length (ensure s p k .state)) (ensure s p k .number)
@@ -300,8 +304,3 @@ under-ensure s p k O U = go (eqb (findIn s p k) 0)
     go : (b : Bool) → UnderSeen (cond {A = Made} b (record { state = s ++ bare p k ∷ []; number = length s + 1 }) (record { state = s; number = findIn s p k }) .state)
     go true = add-under s p k O U
     go false = U
-
-pub under-create : (s : List Node) (p k : ℕ) → Ordered s → 1 ≤ p → p ≤ length s → UnderSeen s → UnderSeen (getOrCreate s p k .state)
-unfolding getOrCreate
-under-create s p k O p1 ps U =
-    under-seen (ensure s p k .state) (ensure s p k .number) (ordered-ensure s p k O p1 ps) (ensure-range s p k .1) (under-ensure s p k O U)

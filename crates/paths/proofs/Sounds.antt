@@ -1,5 +1,6 @@
--- A formed state stays formed when a path is made or made seen, and a table that holds a formed state is sound. Assumes nothing.
-use Prim.Native.Nat.{ℕ, zero, suc, _+_, _-_, _≤_, _<_}
+-- A formed state stays formed when a path is made or made seen, and a table that holds a formed state is sound. Assumes
+-- nothing.
+use Prim.Native.Nat.{ℕ, zero, suc, _+_, _≤_, _<_}
 use mathlib.Core.Path.{_≡_, refl, sym, ap, _∙_}
 use mathlib.Core.Bool.{Bool, true, false, cond, _&&_, and-eq-true-iff}
 use mathlib.Core.Logic.{⊎-elim}
@@ -83,7 +84,9 @@ set-keeps C (x ∷ s) (suc i) (suc j) n d f h = set-keeps C s i j n d f h
 pub update-keeps : (C : Node → Type 0) (s : List Node) (r f v q : ℕ) → ((n : Node) → C n → C (withField f v n)) → C (nodeOf s q)
     → C (nodeOf (update s r f v) q)
 unfolding update nodeOf
-update-keeps C s r f v q g h = set-keeps C s (r - 1) (q - 1) (withField f v (nodeOf s r)) (bare 0 0) (g (nodeOf s r)) h
+update-keeps C s zero f v q g h = h
+update-keeps C s (suc r) f v zero g h = h
+update-keeps C s (suc r) f v (suc q) g h = set-keeps C s r q (withField f v (nodeOf s (suc r))) (bare 0 0) (g (nodeOf s (suc r))) h
 
 -- flags, one by one
 pub record Flags (n : Node) : Type 0 where
@@ -207,9 +210,10 @@ record Changed (s s′ : List Node) (r : ℕ) (n : Node) : Type 0 where
   here : nodeOf s′ r ≡ n
   other : (q : ℕ) → 1 ≤ q → (q ≡ r → ⊥) → nodeOf s′ q ≡ nodeOf s q
 
-update-here : (s : List Node) (r f v : ℕ) → 1 ≤ r → r ≤ length s → nodeOf (update s r f v) r ≡ withField f v (nodeOf s r)
+pub update-here : (s : List Node) (r f v : ℕ) → 1 ≤ r → r ≤ length s → nodeOf (update s r f v) r ≡ withField f v (nodeOf s r)
 unfolding update nodeOf
-update-here s r f v r1 h = getD-set-same s (r - 1) (withField f v (nodeOf s r)) (bare 0 0) (omega arith)
+update-here s zero f v r1 h = absurd (omega arith)
+update-here s (suc r) f v r1 h = getD-set-same s r (withField f v (nodeOf s (suc r))) (bare 0 0) (omega arith)
 
 module _ (s : List Node) (r : ℕ) (r1 : 1 ≤ r) (rs : r ≤ length s) where
   changed-once : (f v : ℕ) → Changed s (update s r f v) r (withField f v (nodeOf s r))

@@ -1,4 +1,5 @@
--- What a change of the state does to numbers, paths and lookups: "New records .. take the next free numbers", and no other moves. Assumes nothing: these are
+-- What a change of the state does to numbers, paths and lookups: "New records .. take the next free numbers", and no
+-- other moves. Assumes nothing: these are
 -- definitions.
 use Prim.Native.Nat.{ℕ, _+_}
 use mathlib.Core.Path.{_≡_}

@@ -1,4 +1,5 @@
--- What a call has done, said of the state: the table that it leaves holds the state s in its first used records. Assumes nothing: these are
+-- What a call has done, said of the state: the table that it leaves holds the state s in its first used records.
+-- Assumes nothing: these are
 -- definitions.
 use Prim.Native.Nat.{ℕ, _+_, _≤_}
 use mathlib.Core.Path.{_≡_}
@@ -11,7 +12,8 @@ pub record Holds (t : List ℕ) (used N : ℕ) (s : List Node) : Type 0 where
   pub shaped : Shaped t used N
   pub state : nodes t used ≡ s
 
--- a call that began with u used records has made m: it answers the number r, and the table t holds m's state in its first used records
+-- a call that began with u used records has made m: it answers the number r, and the table t holds m's state in its
+-- first used records
 pub record Makes (u : ℕ) (m : Made) (t : List ℕ) (used N r : ℕ) : Type 0 where
   pub shaped : Shaped t used N
   pub state : nodes t used ≡ m .state

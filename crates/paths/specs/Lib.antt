@@ -7,3 +7,5 @@ pub mod Place
 pub mod Order
 pub mod Depth
 pub mod Adds
+pub mod Path
+pub mod Changes

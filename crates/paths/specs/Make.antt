@@ -1,4 +1,5 @@
--- Making a path and making it seen: the Rust's `get_or_create`. "New records .. take the next free numbers". Assumes nothing: these are definitions.
+-- Making a path and making it seen: the Rust's `get_or_create`. "New records .. take the next free numbers". Assumes
+-- nothing: these are definitions.
 use Prim.Native.Nat.{ℕ, zero, suc, _+_}
 use mathlib.Core.Bool.{cond}
 use mathlib.Core.List.{List, [], _∷_, _++_}

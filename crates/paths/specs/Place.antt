@@ -1,4 +1,5 @@
--- The place of a key in a chain: "Children of one record form a chain through next, keys strictly rising, zero ending the chain." It is where the Rust's
+-- The place of a key in a chain: "Children of one record form a chain through next, keys strictly rising, zero ending
+-- the chain." It is where the Rust's
 -- `get_mut` finds a key in `children` and `get_or_create` adds it. Assumes nothing: these are definitions.
 use Prim.Native.Nat.{ℕ, _≤_, _<_}
 use mathlib.Core.Path.{_≡_}
@@ -11,7 +12,8 @@ pub record Before (t : List ℕ) (u p k prev : ℕ) : Type 0 where
   pub kid : (prev ≡ 0 → ⊥) → Kid t u p prev
   pub below : (prev ≡ 0 → ⊥) → keyOf t prev < k
 
--- where the key k stands or goes among the children of p: behind prev, the last with a lower key (0: none), and at c, the first from k on (0: none)
+-- where the key k stands or goes among the children of p: behind prev, the last with a lower key (0: none), and at c,
+-- the first from k on (0: none)
 pub record Place (t : List ℕ) (u p k prev c : ℕ) : Type 0 where
   pub first : First t u p k c
   pub head : prev ≡ 0 → c ≡ childOf t p

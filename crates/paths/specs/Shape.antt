@@ -1,5 +1,7 @@
--- A table that holds a state: its links are those of the state's paths, and all records beyond used are zero. What a record's fields say is not asked here (question 2
--- asks it too), since a change of several fields goes through tables that are not sound. Assumes nothing: these are definitions.
+-- A table that holds a state: its links are those of the state's paths, and all records beyond used are zero. What a
+-- record's fields say is not asked here (question 2
+-- asks it too), since a change of several fields goes through tables that are not sound. Assumes nothing: these are
+-- definitions.
 use Prim.Native.Nat.{ℕ, _*_, _≤_, _<_}
 use mathlib.Core.Path.{_≡_}
 use mathlib.Core.List.{List}

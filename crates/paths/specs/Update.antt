@@ -1,6 +1,8 @@
--- A state with one field of one node changed, as the Rust stores into the `Info` that `get_mut` or `get_or_create` gives. The fields are "key, parent, child,
--- next, seen, not-bool, blocked, kind, count, name, confidence"; those up to next never change by it. Assumes nothing: these are definitions.
-use Prim.Native.Nat.{ℕ, _-_}
+-- A state with one field of one node changed, as the Rust stores into the `Info` that `get_mut` or `get_or_create`
+-- gives. The fields are "key, parent, child,
+-- next, seen, not-bool, blocked, kind, count, name, confidence"; those up to next never change by it. Assumes nothing:
+-- these are definitions.
+use Prim.Native.Nat.{ℕ, zero, suc}
 use mathlib.Core.Bool.{cond}
 use mathlib.Core.List.{List}
 use lib.Dec.{eqb}
@@ -22,6 +24,7 @@ withField f v n = record {
   confidence = cond (eqb f field.confidence) v (n .confidence);
 }
 
--- the state with field f of node r set to v
+-- the state with field f of node r set to v; number 0 is none's
 unfoldable pub update : List Node → ℕ → ℕ → ℕ → List Node
-update s r f v = set s (r - 1) (withField f v (nodeOf s r))
+update s zero f v = s
+update s (suc r) f v = set s r (withField f v (nodeOf s (suc r)))

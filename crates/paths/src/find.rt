@@ -12,7 +12,8 @@ use crate::insert::place;
 use facts::field;
 use limits::fields::SEEN;
 
-// The child of parent with that key, 0 if there is none: it stands at the first key of the chain that is not lower, or nowhere.
+// The child of parent with that key, 0 if there is none: it stands at the first key of the chain that is not lower, or
+// nowhere.
 pub fn find_child(table: &[u32], used: u32, parent: u32, key: u32) -> u32
     requires { ⌜ Linked (now table) used ⌝ }
     requires { ⌜ parentOf (now table) 1 ≡ 0 ⌝ }

@@ -25,7 +25,8 @@ pub struct Spot {
     pub next: u32,
 }
 
-// Where a key stands or goes among the children of parent, looked for behind one with a lower key, or from the first on for 0. A record often stands in the chain right
+// Where a key stands or goes among the children of parent, looked for behind one with a lower key, or from the first on
+// for 0. A record often stands in the chain right
 // behind the one before it: where it does, the walk counts on instead of waiting for the number that it loads.
 fn place_behind(table: &[u32], used: u32, parent: u32, key: u32, after: u32) -> Spot
     requires { ⌜ Linked (now table) used ⌝ }
@@ -53,7 +54,8 @@ fn place_behind(table: &[u32], used: u32, parent: u32, key: u32, after: u32) -> 
     Spot { prev, next: 0 }
 }
 
-// The same, where 0 stands for no such child, and the walk begins where it does best. One that goes on from a child stays with its chain: the walks of a fill are one walk.
+// The same, where 0 stands for no such child, and the walk begins where it does best. One that goes on from a child
+// stays with its chain: the walks of a fill are one walk.
 pub fn place(table: &[u32], used: u32, parent: u32, key: u32, after: u32) -> Spot
     requires { ⌜ Linked (now table) used ⌝ }
     requires { ⌜ (1 ≤ parent) × (parent ≤ used) ⌝ }

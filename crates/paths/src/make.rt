@@ -14,7 +14,8 @@ use crate::insert::insert_at;
 use crate::insert::place;
 use crate::seen::make_seen;
 
-// The child of parent with that key, which is added, unseen, if it is not there. It is looked for behind prev, a child with a lower key, or from the
+// The child of parent with that key, which is added, unseen, if it is not there. It is looked for behind prev, a child
+// with a lower key, or from the
 // first child on for 0.
 pub fn ensure_after(
     table: &mut [u32],

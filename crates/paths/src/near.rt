@@ -15,7 +15,8 @@ use std::num::wrapping_sub_u32;
 // In a table of so few records a walk is short, however its chain jumps about.
 const FEW_RECORDS: u32 = 32;
 
-// A chain is taken for one that jumps about by its first so many children, and one more for so many records: looking at all of them must be worth it.
+// A chain is taken for one that jumps about by its first so many children, and one more for so many records: looking at
+// all of them must be worth it.
 const FEW_CHILDREN: u32 = 8;
 
 const RECORDS_FOR_A_CHILD: u32 = 64;
@@ -33,7 +34,8 @@ pub fn behind(table: &[u32], used: u32, parent: u32, prev: u32) -> u32
     field(table, prev, NEXT)
 }
 
-// The record r, if it is a child of parent and its key is neither too low nor as high as the one that is looked for; the one before else. One test asks both of the key: in no order
+// The record r, if it is a child of parent and its key is neither too low nor as high as the one that is looked for;
+// the one before else. One test asks both of the key: in no order
 // a test of one end would come out either way.
 fn nearer(table: &[u32], used: u32, parent: u32, key: u32, near: Nearest, r: u32) -> Nearest
     requires { ⌜ Linked (now table) used ⌝ }
@@ -54,7 +56,8 @@ fn nearer(table: &[u32], used: u32, parent: u32, key: u32, near: Nearest, r: u32
     }
 }
 
-// The child of parent with the highest key below that one, or prev: all records are looked at, the last one first, so that no load waits for another.
+// The child of parent with the highest key below that one, or prev: all records are looked at, the last one first, so
+// that no load waits for another.
 fn nearest(table: &[u32], used: u32, parent: u32, key: u32, prev: u32) -> u32
     requires { ⌜ Linked (now table) used ⌝ }
     requires { ⌜ Before (now table) used parent key prev ⌝ }
@@ -72,7 +75,8 @@ fn nearest(table: &[u32], used: u32, parent: u32, key: u32, prev: u32) -> u32
     near.child
 }
 
-// By how many the children that don't stand right behind the one before them are ahead of those that do, with one more child.
+// By how many the children that don't stand right behind the one before them are ahead of those that do, with one more
+// child.
 fn ahead_with(ahead: u32, prev: u32, next: u32) -> u32
     requires { ⌜ ahead < 2 ^ 32 - 1 ⌝ }
     ensures { λ r. ⌜ r ≤ ahead + 1 ⌝ }
@@ -86,7 +90,8 @@ fn ahead_with(ahead: u32, prev: u32, next: u32) -> u32
     ahead - 1
 }
 
-// A child of parent with a lower key, or 0, behind which a walk that knows of none begins: in a large table whose chain jumps about the nearest one, else one that the first children led to.
+// A child of parent with a lower key, or 0, behind which a walk that knows of none begins: in a large table whose chain
+// jumps about the nearest one, else one that the first children led to.
 pub fn start(table: &[u32], used: u32, parent: u32, key: u32) -> u32
     requires { ⌜ Linked (now table) used ⌝ }
     requires { ⌜ (1 ≤ parent) × (parent ≤ used) ⌝ }

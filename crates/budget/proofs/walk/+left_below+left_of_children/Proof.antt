@@ -1,4 +1,5 @@
--- `budget::walk::left_below` and `left_of_children` meet their contracts: `Paying` holds before each child. The numbers above the record fall, twice a number: once
+-- `budget::walk::left_below` and `left_of_children` meet their contracts: `Paying` holds before each child. The numbers
+-- above the record fall, twice a number: once
 -- from a record to its children, once more from a child to its own. Assumes nothing.
 use Prim.Native.Nat.{ℕ, _+_, _-_, _*_, _<_}
 use mathlib.Core.Path.{refl, sym, _∙_}

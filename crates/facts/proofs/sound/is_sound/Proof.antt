@@ -1,4 +1,5 @@
--- `facts::sound::is_sound`: each test that fails contradicts its part of `Sound`, and the parts make the whole. Assumes nothing.
+-- `facts::sound::is_sound`: each test that fails contradicts its part of `Sound`, and the parts make the whole. Assumes
+-- nothing.
 use mathlib.Core.Path.{_≡_, sym, _∙_}
 use mathlib.Core.Bool.{true, true≢false}
 use denote.Ref.{now}

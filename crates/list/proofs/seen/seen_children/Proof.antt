@@ -1,4 +1,5 @@
--- `list::seen::seen_children` meets its contract: `Looking` holds before each run of the chain and before each record of a run. The keys left fall. Assumes nothing.
+-- `list::seen::seen_children` meets its contract: `Looking` holds before each run of the chain and before each record
+-- of a run. The keys left fall. Assumes nothing.
 use mathlib.Core.Path.{refl, sym, _∙_}
 use mathlib.Core.Logic.{⊎-elim}
 use native.Mathlib.Omega.{arith}

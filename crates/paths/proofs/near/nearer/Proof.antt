@@ -1,4 +1,5 @@
--- `paths::near::nearer` meets its contract: a difference that does not reach up to the key did not wrap. Assumes nothing.
+-- `paths::near::nearer` meets its contract: a difference that does not reach up to the key did not wrap. Assumes
+-- nothing.
 use mathlib.Core.Path.{sym, _∙_}
 use native.Mathlib.Omega.{arith}
 use borrow.Author.Needs.{needs}
