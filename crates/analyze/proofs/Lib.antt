@@ -1,1 +1,11 @@
-pub mod Dispatch
+pub mod Reach
+pub mod Given
+pub mod Proper
+pub mod Namings
+pub mod Lengths
+pub mod Loads
+pub mod Phasing
+pub mod Plans
+pub mod Writes
+pub mod Hinted
+pub mod Stepping

@@ -1,77 +1,40 @@
--- "then the first arm that matches". Each of the Rust's arms asks for one opcode of a few, so the arms stand here by opcode, in its order. Assumes nothing: these
--- are definitions.
+-- "then the first arm that matches". Each of the Rust's arms asks for one opcode of a few, so the arms stand here by
+-- opcode, in its order (decision D17). Assumes nothing: these are definitions.
 use Prim.Native.Nat.{ℕ}
 use mathlib.Core.Bool.{Bool, cond, _||_}
 use mathlib.Core.List.{List}
 use lib.Dec.{eqb}
 use Rattle.opcode.specs.Opcode.{ADD, MUL, SDIV, SMOD, SIGNEXTEND, LT, GT, EQ, ISZERO, AND, BYTE, SHL, SHR, CALLDATALOAD, CALLDATACOPY, MLOAD, MSTORE8}
 use Rattle.opcode.specs.Lists.{listed, calls}
+use Rattle.facts.specs.State.{Node}
 use Rattle.labels.specs.declared.Step.{Step}
-use Rattle.analyze.specs.Machine.{Machine, withFacts}
+use Rattle.analyze.specs.declared.Plan.{Plan}
+use Rattle.analyze.specs.Plan.{nothing}
 use Rattle.analyze.specs.Load.{load}
 use Rattle.analyze.specs.Sum.{add}
 use Rattle.analyze.specs.Length.{mul, shl, compare}
 use Rattle.analyze.specs.Name.{call, mstore8, shr, signed, and, eq, isZero, signExtend, byte, mload}
 
--- what stands for each arm
-pub record Arms (A : Type 0) : Type 0 where
-  pub load : A
-  pub call : A
-  pub add : A
-  pub shl : A
-  pub mul : A
-  pub compare : A
-  pub mstore8 : A
-  pub shr : A
-  pub signed : A
-  pub and : A
-  pub eq : A
-  pub isZero : A
-  pub signExtend : A
-  pub byte : A
-  pub mload : A
-  pub other : A
+-- the arm of an opcode, from the facts s
+unfoldable pub armBy : ℕ → List Node → Bool → List ℕ → Step → Plan
+armBy op s active bytes x =
+    cond (eqb op CALLDATALOAD || eqb op CALLDATACOPY) (load s x)
+    (cond (listed op calls) (call x)
+    (cond (eqb op ADD) (add s x)
+    (cond (eqb op SHL) (shl s active bytes x)
+    (cond (eqb op MUL) (mul s x)
+    (cond (eqb op LT || eqb op GT) (compare s x)
+    (cond (eqb op MSTORE8) (mstore8 x)
+    (cond (eqb op SHR) (shr active bytes x)
+    (cond (eqb op SDIV || eqb op SMOD) (signed x)
+    (cond (eqb op AND) (and x)
+    (cond (eqb op EQ) (eq x)
+    (cond (eqb op ISZERO) (isZero bytes x)
+    (cond (eqb op SIGNEXTEND) (signExtend x)
+    (cond (eqb op BYTE) (byte x)
+    (cond (eqb op MLOAD) (mload x)
+    nothing))))))))))))))
 
--- the arm of an opcode
-unfoldable pub byOpcode : {A : Type 0} → ℕ → Arms A → A
-byOpcode op a =
-    cond (eqb op CALLDATALOAD || eqb op CALLDATACOPY) (a .load)
-    (cond (listed op calls) (a .call)
-    (cond (eqb op ADD) (a .add)
-    (cond (eqb op SHL) (a .shl)
-    (cond (eqb op MUL) (a .mul)
-    (cond (eqb op LT || eqb op GT) (a .compare)
-    (cond (eqb op MSTORE8) (a .mstore8)
-    (cond (eqb op SHR) (a .shr)
-    (cond (eqb op SDIV || eqb op SMOD) (a .signed)
-    (cond (eqb op AND) (a .and)
-    (cond (eqb op EQ) (a .eq)
-    (cond (eqb op ISZERO) (a .isZero)
-    (cond (eqb op SIGNEXTEND) (a .signExtend)
-    (cond (eqb op BYTE) (a .byte)
-    (cond (eqb op MLOAD) (a .mload)
-    (a .other)))))))))))))))
-
--- what each does to the machine
-abbrev pub arms : Machine → Bool → List ℕ → Step → Arms Machine
-arms m active bytes x = record {
-  load = load m x;
-  call = withFacts m (call (m .facts) x);
-  add = add m x;
-  shl = shl m active bytes x;
-  mul = mul m x;
-  compare = compare m x;
-  mstore8 = withFacts m (mstore8 (m .facts) x);
-  shr = withFacts m (shr (m .facts) active bytes x);
-  signed = withFacts m (signed (m .facts) x);
-  and = and m x;
-  eq = withFacts m (eq (m .facts) x);
-  isZero = isZero m bytes x;
-  signExtend = withFacts m (signExtend (m .facts) x);
-  byte = withFacts m (byte (m .facts) x);
-  mload = mload m x;
-  other = m;
-}
-
-abbrev pub arm : Machine → Bool → List ℕ → Step → Machine
-arm m active bytes x = byOpcode (x .op) (arms m active bytes x)
+-- the arm of the step
+abbrev pub arm : List Node → Bool → List ℕ → Step → Plan
+arm s active bytes x = armBy (x .op) s active bytes x

@@ -5,7 +5,7 @@ use mathlib.Core.List.{List}
 use lib.Dec.{eqb}
 use Rattle.limits.specs.Between.{between}
 use Rattle.limits.specs.Codes as code
-use Rattle.limits.specs.Confidences.{byCopy, byUse}
+use Rattle.limits.specs.Confidences.{byBytes, byTheRest}
 use Rattle.limits.specs.Limits.{wordBytes}
 use Rattle.word.specs.Value.{valueOf}
 use Rattle.word.specs.Arithmetic.{powerOf}
@@ -17,63 +17,60 @@ use Rattle.code.specs.Guard.{guardFailurePc}
 use Rattle.code.specs.declared.Place.{Place}
 use Rattle.code.specs.declared.Place.the-variants.{At, Nowhere}
 use Rattle.facts.specs.State.{Node, nodeOf}
-use Rattle.marks.specs.Names.{setTname, markNotBool}
 use Rattle.marks.specs.Hints.{hasRangeHint}
-use Rattle.kinds.specs.Kinds.{setArray}
 use Rattle.labels.specs.declared.Val.{Val}
 use Rattle.labels.specs.declared.Label.{Label}
 use Rattle.labels.specs.declared.Step.{Step}
 use Rattle.labels.specs.declared.Choice.{Choice}
 use Rattle.labels.specs.declared.Choice.the-variants.{Chosen, Neither}
-use Rattle.labels.specs.Operands.{onArg, isAny, isLength, isPlainLength, choose}
-use Rattle.labels.specs.Stack.{withTopWord, stackOnes, memoryOnes}
-use Rattle.analyze.specs.Machine.{Machine, withFacts, withStack, marked, markedNamed}
+use Rattle.labels.specs.Operands.{onArg, isAny, choose, isLength, isPlainLength}
+use Rattle.operations.specs.declared.Operation.{Operation}
+use Rattle.operations.specs.declared.Operation.the-variants.{Nothing, MarkNotBool, SetTname, SetArray}
+use Rattle.analyze.specs.declared.OnStack.{OnStack}
+use Rattle.analyze.specs.declared.OnStack.the-variants as stack
+use Rattle.analyze.specs.declared.InMemory.the-variants as memory
+use Rattle.analyze.specs.declared.Plan.{Plan}
+use Rattle.analyze.specs.Plan.{nothing, one, three, withStack, withMemory, mark, markAndName}
 
--- the length marked, then the other operand's argument
-unfoldable pub lengthMarked : List Node → ℕ → Label → List Node
-lengthMarked s path other = onArg other (λ w. marked (markNotBool s path 0) w) (markNotBool s path 0)
+-- the length at a path marked, then the other operand's argument, and one operation more
+abbrev pub markLength : ℕ → Label → Operation → Plan
+markLength path other more = three (MarkNotBool path 0) (onArg other (λ w. mark w) Nothing) more
 
 -- a name for the path itself: `path.split_last()` and `set_tname(rest, *last, ..)`
-unfoldable pub pathNamed : List Node → ℕ → ℕ → ℕ → List Node
-pathNamed s path name confidence = setTname s (nodeOf s path .parent) (nodeOf s path .key) name confidence
+abbrev pub namePath : List Node → ℕ → ℕ → ℕ → Operation
+namePath s path name confidence = SetTname (nodeOf s path .parent) (nodeOf s path .key) name confidence
 
--- an array mark (reading: "every slot and entry of kind 2, offset 0, that path, added 0, masked or not, gets the word 1; then the top gets the multiplier")
-abbrev pub arrayMarked : Machine → ℕ → ℕ → Machine
-arrayMarked m path count = record {
-  facts = setArray (m .facts) path count;
-  stack = withTopWord (stackOnes path (m .stack)) (wordBytes * count);
-  memory = memoryOnes path (m .memory);
-}
+-- an array mark writes the word 1 to each slot and entry that holds the length, and the multiplier to the top
+abbrev pub withOnes : Plan → ℕ → ℕ → Plan
+withOnes p path word = withMemory (withStack p (stack.Ones path word)) (memory.Ones path)
 
 -- what a multiplier says of the path: 1 bytes, 2 string, an array mark
-abbrev pub multiplied : Machine → ℕ → Multiplier → Machine
-multiplied m path One = withFacts m (pathNamed (m .facts) path code.bytes byCopy)
-multiplied m path Two = withFacts m (pathNamed (m .facts) path code.string byUse)
-multiplied m path (Array count) = arrayMarked m path count
-multiplied m path Other = m
+abbrev pub multiplied : List Node → ℕ → Label → Multiplier → Plan
+multiplied s path other One = markLength path other (namePath s path code.bytes byBytes)
+multiplied s path other Two = markLength path other (namePath s path code.string byTheRest)
+multiplied s path other (Array count) = withOnes (markLength path other (SetArray path count)) path (wordBytes * count)
+multiplied s path other Other = markLength path other Nothing
 
 -- MUL and SHL of the length at a path by a factor, beside the other operand's label: "and the path isn't the root"
-unfoldable pub multiply : Machine → ℕ → Label → ℕ → Machine
-multiply m path other factor =
-    cond (eqb path 1)
-    (withFacts m (lengthMarked (m .facts) path other))
-    (multiplied (withFacts m (lengthMarked (m .facts) path other)) path (multiplierOf factor))
+unfoldable pub multiply : List Node → ℕ → Label → ℕ → Plan
+multiply s path other factor = cond (eqb path 1) (markLength path other Nothing) (multiplied s path other (multiplierOf factor))
 
--- reading: "the general arm of LT, GT and MUL takes the first labelled operand only and leaves it alone under a range name"
-abbrev pub unlessRange : List Node → Val → List Node
-unlessRange s v = cond (hasRangeHint s (v .path) (v .offset)) s (marked s v)
+-- the general arm of LT, GT and MUL takes the first labelled operand only and leaves it alone under a range name
+-- (decision D12)
+unfoldable pub unlessRange : List Node → Val → Plan
+unlessRange s v = cond (hasRangeHint s (v .path) (v .offset)) nothing (one (mark v))
 
-abbrev pub markFirst : List Node → Choice → List Node
-markFirst s Neither = s
+abbrev pub markFirst : List Node → Choice → Plan
+markFirst s Neither = nothing
 markFirst s (Chosen v own other) = unlessRange s v
 
 -- MUL: of a length, or the general arm
-abbrev pub mulBy : Machine → Choice → Choice → Machine
-mulBy m (Chosen v own other) general = multiply m (v .path) (other .label) (valueOf (other .word))
-mulBy m Neither general = withFacts m (markFirst (m .facts) general)
+abbrev pub mulBy : List Node → Choice → Choice → Plan
+mulBy s (Chosen v own other) general = multiply s (v .path) (other .label) (valueOf (other .word))
+mulBy s Neither general = markFirst s general
 
-unfoldable pub mul : Machine → Step → Machine
-mul m x = mulBy m (choose isLength (x .first) (x .second)) (choose isAny (x .first) (x .second))
+unfoldable pub mul : List Node → Step → Plan
+mul s x = mulBy s (choose isLength (x .first) (x .second)) (choose isAny (x .first) (x .second))
 
 -- does `guard_failure_pc` name a place?
 abbrev pub isPlace : Place → Bool
@@ -82,46 +79,39 @@ isPlace Nowhere = false
 
 -- a guarded SHL of an argument by whole bytes checks its type: the bytes, 1 to 32; 0 for a shift that is no such check
 unfoldable pub bytesShift : List ℕ → ℕ → ℕ → ℕ
-bytesShift bytes pc shift = cond (isPlace (guardFailurePc bytes pc true) && between 8 256 shift && eqb (shift % 8) 0) (shift / 8) 0
+bytesShift bytes pc shift =
+    cond (isPlace (guardFailurePc bytes pc true) && between 8 256 shift && eqb (shift % 8) 0) (shift / 8) 0
 
-abbrev pub bytesNamed : List Node → Val → ℕ → List Node
-bytesNamed s v n = cond (eqb n 0) (marked s v) (markedNamed s v (code.fixedBytes + n) byUse)
+abbrev pub bytesNamed : Val → ℕ → Plan
+bytesNamed v n = cond (eqb n 0) (one (mark v)) (markAndName v (code.fixedBytes + n) byTheRest)
 
-unfoldable pub shiftNamed : List Node → List ℕ → ℕ → Val → ℕ → List Node
-shiftNamed s bytes pc v shift = bytesNamed s v (bytesShift bytes pc shift)
-
--- SHL (reading: "path root and active is an arm of its own, for any offset and added value; otherwise only offset 0 and added 0 (multiply)")
-abbrev pub shlOf : Machine → Bool → List ℕ → Step → Val → Machine
-shlOf m active bytes x v =
+-- SHL: path root and active is an arm of its own, for any offset and added value; otherwise only offset 0 and added 0,
+-- which multiplies (decision D9)
+unfoldable pub shlOf : List Node → Bool → List ℕ → Step → Val → Plan
+shlOf s active bytes x v =
     cond (eqb (v .path) 1 && active)
-    (withFacts m (shiftNamed (m .facts) bytes (x .pc) v (valueOf (x .first .word))))
-    (cond (isLength v) (multiply m (v .path) (x .first .label) (powerOf (valueOf (x .first .word)))) m)
+    (bytesNamed v (bytesShift bytes (x .pc) (valueOf (x .first .word))))
+    (cond (isLength v) (multiply s (v .path) (x .first .label) (powerOf (valueOf (x .first .word)))) nothing)
 
-unfoldable pub shl : Machine → Bool → List ℕ → Step → Machine
-shl m active bytes x = onArg (x .second .label) (λ v. shlOf m active bytes x v) m
+unfoldable pub shl : List Node → Bool → List ℕ → Step → Plan
+shl s active bytes x = onArg (x .second .label) (λ v. shlOf s active bytes x v) nothing
 
--- `0 < arr.len || arr.len > 0`, and 31 (`mod.rs`: "= string for storage")
+-- `0 < arr.len || arr.len > 0`, and 31 (`mod.rs`: "= string for storage"): the top's word is 1 then
 unfoldable pub comparesLength : ℕ → Bool
 comparesLength bound = eqb bound 0 || eqb bound 31
 
--- reading: "The length arm of LT (second operand) and GT (first operand) .. comes before the general arm"; for that operand's label, beside the general arm's choice
-unfoldable pub comparedFacts : List Node → Label → Choice → List Node
-comparedFacts s l general = onArg l (λ v. cond (isPlainLength v) (markNotBool s (v .path) 0) (markFirst s general)) (markFirst s general)
+abbrev pub lengthCompared : ℕ → ℕ → Plan
+lengthCompared path bound = withStack (one (MarkNotBool path 0)) (cond (comparesLength bound) (stack.Word 1) stack.Keep)
 
-unfoldable pub comparedStack : List ℕ → Label → ℕ → List ℕ
-comparedStack stack l bound = onArg l (λ v. cond (isPlainLength v && comparesLength bound) (withTopWord stack 1) stack) stack
+-- the length arm of LT (second operand) and GT (first operand) comes before the general arm (decision D11); for that
+-- operand's label and the other's word, beside the general arm's choice
+unfoldable pub compareWith : List Node → Label → ℕ → Choice → Plan
+compareWith s l bound general =
+    onArg l (λ v. cond (isPlainLength v) (lengthCompared (v .path) bound) (markFirst s general)) (markFirst s general)
 
-unfoldable pub compareFacts : List Node → Step → List Node
-compareFacts s x =
+unfoldable pub compare : List Node → Step → Plan
+compare s x =
+    let general = choose isAny (x .first) (x .second) in
     cond (eqb (x .op) LT)
-    (comparedFacts s (x .second .label) (choose isAny (x .first) (x .second)))
-    (comparedFacts s (x .first .label) (choose isAny (x .first) (x .second)))
-
-unfoldable pub compareStack : List ℕ → Step → List ℕ
-compareStack stack x =
-    cond (eqb (x .op) LT)
-    (comparedStack stack (x .second .label) (valueOf (x .first .word)))
-    (comparedStack stack (x .first .label) (valueOf (x .second .word)))
-
-abbrev pub compare : Machine → Step → Machine
-compare m x = withStack m (compareFacts (m .facts) x) (compareStack (m .stack) x)
+    (compareWith s (x .second .label) (valueOf (x .first .word)) general)
+    (compareWith s (x .first .label) (valueOf (x .second .word)) general)

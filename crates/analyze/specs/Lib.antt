@@ -1,4 +1,4 @@
-pub mod Machine
+pub mod Plan
 pub mod Phases
 pub mod Load
 pub mod Sum

@@ -1,3 +1,9 @@
-pub mod Adding
-pub mod Comparing
-pub mod Checking
+mod NamingLaws
+mod Shifts
+mod RangeLaws
+mod HintLaws
+mod SumLaws
+mod LoadLaws
+mod LengthLaws
+mod ByOpcode
+mod Planning

@@ -1,11 +1,13 @@
-// The arms of a step that change the top of the stack beside the facts: ADD, LT and GT, AND, ISZERO and MLOAD. Each answers how many records are used then.
-// analyze/specs has what each does.
-mod checks;
-mod compares;
+// What a step will do, decided once: each phase and arm answers a plan, and writes nothing. analyze/specs has what each
+// says.
+mod by_opcode;
+mod hinting;
+mod lengths;
+mod loads;
+mod naming;
+mod plans;
+mod ranging;
 mod sums;
 
-pub use checks::and;
-pub use checks::is_zero;
-pub use checks::mload;
-pub use compares::compare;
-pub use sums::add;
+pub use by_opcode::plan_of;
+pub use hinting::hints_of;

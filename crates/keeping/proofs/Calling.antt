@@ -1,6 +1,6 @@
 -- A step that is taken leaves formed facts, and so a sound table. Assumes nothing.
 use Prim.Native.Nat.{ℕ, _≤_}
-use mathlib.Core.Path.{_≡_, refl, sym, ap, subst, _∙_}
+use mathlib.Core.Path.{_≡_, refl, sym, subst}
 use mathlib.Core.Bool.{Bool, true, false, cond}
 use mathlib.Core.List.{List}
 use native.Mathlib.Omega.{arith}
@@ -11,94 +11,98 @@ use Rattle.limits.specs.Layout.{stepOp}
 use Rattle.facts.specs.State.{Node, encode}
 use Rattle.facts.specs.Formed.{Formed}
 use Rattle.facts.specs.Sound.{Sound}
-use Rattle.facts.proofs.Encode.{length-nodes}
 use Rattle.facts.proofs.States.{sound-formed, sound-exactly}
 use Rattle.labels.specs.Step.{stepOf}
-use Rattle.analyze.specs.Machine.{Machine}
 use Rattle.analyze.specs.Phases.{activeAfter}
-use Rattle.analyze.specs.Analyze.{analyze}
-use Rattle.analyze.specs.Ready.{lent}
-use Rattle.step.specs.Questions.{codeFits, sizesFit, labelsFit, fieldsFit, slotThere, roomThere, refusal}
-use Rattle.step.specs.Call.{Lent, isActive, effect, refusalOf, Outcome, unfit, unsound, judged}
-use Rattle.step.proofs.Taking.{step-reaches}
+use Rattle.analyze.specs.Analyze.{Machine, analyze}
+use Rattle.analyze.proofs.Proper.{cond-has}
+use Rattle.analyze.proofs.Stepping.{analyze-formed}
+use Rattle.limits.specs.Questions.{taken}
+use Rattle.head.specs.Held.{recordsIn}
+use Rattle.head.specs.Asked.{firstNo, FirstNo}
+use Rattle.head.proofs.Asking.{taken-first}
+use Rattle.step.specs.Questions.{codeFits, sizesFit, labelsFit, fieldsFit, slotThere, roomThere, stepTests}
+use Rattle.step.specs.Call.{Lent, machineOf, isActive, effect, testsOf, questions, Outcome}
+use Rattle.step.proofs.Labelled.{step-reaches}
 use Rattle.keeping.specs.Fits.{AreU32}
-use Rattle.keeping.proofs.Laws.{cond-has}
 use Rattle.keeping.proofs.Fitting.{step-fits}
-use Rattle.keeping.proofs.Stepping.{analyze-formed}
 
 -- what a step that is not refused has passed
-record Unrefused (N used : ℕ) (m : Machine) (active : Bool) (bytes x : List ℕ) : Type 0 where
-  labels : labelsFit used (m .stack) (m .memory) x ≡ true
+record Unrefused (N : ℕ) (m : Machine) (active : Bool) (bytes x : List ℕ) : Type 0 where
+  labels : labelsFit (length (m .facts)) (m .stack) (m .memory) x ≡ true
   room : roomThere N m active bytes x ≡ true
 
-taken : (N used : ℕ) (m : Machine) (active : Bool) (bytes x : List ℕ) → refusal N used m active bytes x ≡ 0 → Unrefused N used m active bytes x
-unfolding refusal
-taken N used m active bytes x e =
-    go (codeFits bytes) (sizesFit (m .stack) (m .memory) x) (labelsFit used (m .stack) (m .memory) x) (fieldsFit (m .memory) x)
-    (slotThere (m .stack) (getD x stepOp 0)) (roomThere N m active bytes x) refl refl e
-  where
-    go : (a b c d f g : Bool) → labelsFit used (m .stack) (m .memory) x ≡ c → roomThere N m active bytes x ≡ g
-        → cond {A = ℕ} a (cond b (cond c (cond d (cond f (cond g 0 8) 7) 6) 5) 4) 3 ≡ 0 → Unrefused N used m active bytes x
-    go true true true true true true p q z = record { labels = p; room = q }
-    go true true true true true false p q z = absurd (omega arith)
-    go true true true true false g p q z = absurd (omega arith)
-    go true true true false f g p q z = absurd (omega arith)
-    go true true false d f g p q z = absurd (omega arith)
-    go true false c d f g p q z = absurd (omega arith)
-    go false b c d f g p q z = absurd (omega arith)
+module _ (N : ℕ) (m : Machine) (active : Bool) (bytes x : List ℕ) where
+  unrefused : firstNo (stepTests N m active bytes x) ≡ taken → Unrefused N m active bytes x
+  unfolding stepTests
+  unrefused e =
+      go (codeFits bytes) (sizesFit (m .stack) (m .memory) x) (labelsFit (length (m .facts)) (m .stack) (m .memory) x)
+      (fieldsFit (m .memory) x) (slotThere (m .stack) (getD x stepOp 0)) (roomThere N m active bytes x) refl refl e
+    where
+      go : (a b c d f g : Bool) → labelsFit (length (m .facts)) (m .stack) (m .memory) x ≡ c
+          → roomThere N m active bytes x ≡ g
+          → cond {A = ℕ} a (cond b (cond c (cond d (cond f (cond g 0 8) 7) 6) 5) 4) 3 ≡ 0 → Unrefused N m active bytes x
+      go true true true true true true p q z = record { labels = p; room = q }
+      go true true true true true false p q z = absurd (omega arith)
+      go true true true true false g p q z = absurd (omega arith)
+      go true true true false f g p q z = absurd (omega arith)
+      go true true false d f g p q z = absurd (omega arith)
+      go true false c d f g p q z = absurd (omega arith)
+      go false b c d f g p q z = absurd (omega arith)
 
--- the machine m, with the facts of all used records
-pub step-formed : (N : ℕ) (m : Machine) (active : Bool) (bytes x : List ℕ) → Formed (m .facts) → AreU32 x
-    → refusal N (length (m .facts)) m active bytes x ≡ 0
-    → Formed (analyze m active bytes (stepOf x) .facts) × (length (analyze m active bytes (stepOf x) .facts) ≤ N)
-unfolding roomThere
-step-formed N m active bytes x F h e =
-    let t = taken N (length (m .facts)) m active bytes x e in (
-      analyze-formed m active bytes (stepOf x) F (step-reaches (length (m .facts)) (m .stack) (m .memory) x (t .labels)) (step-fits x h),
-      leb-true (length (analyze m active bytes (stepOf x) .facts)) N (t .room),
-    )
+  abbrev after : List Node
+  after = analyze m active bytes (stepOf x) .facts
+
+  -- the machine m, with the facts of all used records
+  pub step-formed : Formed (m .facts) → AreU32 x → firstNo (stepTests N m active bytes x) ≡ taken
+      → Formed after × (length after ≤ N)
+  unfolding roomThere
+  step-formed F h e =
+      let t = unrefused e in (
+        analyze-formed m active bytes (stepOf x) F
+            (step-reaches (length (m .facts)) (m .stack) (m .memory) x (t .labels)) (step-fits x h),
+        leb-true (length after) N (t .room),
+      )
 
 -- the table of formed facts is sound
 encoded-sound : (N : ℕ) (s : List Node) → Formed s → length s ≤ N → Sound (encode N s) (length s) N
-encoded-sound N s F h = sound-exactly (encode N s) (length s) N .1 (record { state = s; formed = F; paths = refl; fits = h; is = refl })
+encoded-sound N s F h =
+    sound-exactly (encode N s) (length s) N .1 (record { state = s; formed = F; paths = refl; fits = h; is = refl })
 
--- question 2 holds of what a step that is taken leaves
-pub effect-sound : (N : ℕ) (l : Lent) (bytes x : List ℕ) → Sound (l .table) (l .used) N → AreU32 x → refusalOf N l bytes x ≡ 0
-    → Sound (effect N l bytes x .table) (effect N l bytes x .used) N
-unfolding effect
-effect-sound N l bytes x S h e =
-    encoded-sound N (analyze m (isActive l) bytes (stepOf x) .facts) (F .0) (F .1)
-  where
-    m : Machine
-    m = lent (l .table) (l .used) (l .stack) (l .memory)
+-- the table is sound with the records that the head says are used
+abbrev SoundIn : ℕ → Lent → Type 0
+SoundIn N l = Sound (l .held .table) (l .held .head .used) N
 
-    F : Formed (analyze m (isActive l) bytes (stepOf x) .facts) × (length (analyze m (isActive l) bytes (stepOf x) .facts) ≤ N)
-    F =
-        step-formed N m (isActive l) bytes x (sound-formed (l .table) (l .used) N S) h
-        (ap (λ (u : ℕ). refusal N u m (isActive l) bytes x) (length-nodes (l .table) (l .used)) ∙ e)
+module _ (l : Lent) (bytes x : List ℕ) (h : AreU32 x) where
+  -- question 2 holds of what a step that is taken leaves
+  pub effect-sound : SoundIn (recordsIn (l .held)) l → firstNo (testsOf l bytes x) ≡ taken
+      → SoundIn (recordsIn (l .held)) (effect l bytes x)
+  unfolding effect
+  effect-sound S e =
+      let F =
+      step-formed (recordsIn (l .held)) (machineOf l) (isActive l) bytes x
+      (sound-formed (l .held .table) (l .held .head .used) (recordsIn (l .held)) S) h e in
+      encoded-sound (recordsIn (l .held)) (analyze (machineOf l) (isActive l) bytes (stepOf x) .facts) (F .0) (F .1)
 
--- and of what any call leaves that found it so, refused or taken; the record count stays
-pub outcome-sound : (N : ℕ) (l : Lent) (bytes x : List ℕ) (number : ℕ) (l′ : Lent) → Outcome l bytes x number l′ → Sound (l .table) (l .used) N
-    → AreU32 x → Sound (l′ .table) (l′ .used) N
-outcome-sound N l bytes x number l′ (unfit f e q) S h = subst (λ (k : Lent). Sound (k .table) (k .used) N) (sym q) S
-outcome-sound N l bytes x number l′ (unsound M C f e q) S h = subst (λ (k : Lent). Sound (k .table) (k .used) N) (sym q) S
-outcome-sound N l bytes x number l′ (judged M C T a J) S h = subst (λ (k : Lent). Sound (k .table) (k .used) N) (sym (J .leaves)) (go (eqb number 0) refl)
-  where
-    same : M ≡ N
-    same = let a = S .size in let b = T .size in omega arith
+  -- and of what any call leaves that found it so, refused or taken; the record count stays
+  pub outcome-sound : (N number : ℕ) (l′ : Lent) → Outcome l bytes x number l′ → SoundIn N l → SoundIn N l′
+  outcome-sound N number l′ O S = subst (SoundIn N) (sym (O .leaves)) (go (eqb number taken) refl)
+    where
+      same : recordsIn (l .held) ≡ N
+      same = let a = S .size in omega arith
 
-    go : (b : Bool) → eqb number 0 ≡ b → Sound (cond b (effect M l bytes x) l .table) (cond b (effect M l bytes x) l .used) N
-    go true z =
-        subst (λ (k : ℕ). Sound (effect M l bytes x .table) (effect M l bytes x .used) k) same
-        (effect-sound M l bytes x T h (sym (J .answers) ∙ eqb-true number 0 z))
-    go false z = S
+      go : (b : Bool) → eqb number taken ≡ b → SoundIn N (cond b (effect l bytes x) l)
+      go false z = S
+      go true z =
+          let asked = subst (FirstNo (questions l bytes x)) (eqb-true number 0 z) (O .asked) in
+          let T = taken-first (l .held) (testsOf l bytes x) asked in
+          subst (λ (k : ℕ). SoundIn k (effect l bytes x)) same (effect-sound (T .1 .sound) (T .2))
 
 -- the decoder's flag stays 0 or 1
-pub outcome-active : (l : Lent) (bytes x : List ℕ) (number : ℕ) (l′ : Lent) → Outcome l bytes x number l′ → l .active ≤ 1 → l′ .active ≤ 1
+pub outcome-active : (l : Lent) (bytes x : List ℕ) (number : ℕ) (l′ : Lent) → Outcome l bytes x number l′
+    → l .held .head .active ≤ 1 → l′ .held .head .active ≤ 1
 unfolding effect
-outcome-active l bytes x number l′ (unfit f e q) h = subst (λ (k : Lent). k .active ≤ 1) (sym q) h
-outcome-active l bytes x number l′ (unsound M C f e q) h = subst (λ (k : Lent). k .active ≤ 1) (sym q) h
-outcome-active l bytes x number l′ (judged M C T a J) h =
-    subst (λ (k : Lent). k .active ≤ 1) (sym (J .leaves))
-    (cond-has (λ (k : Lent). k .active ≤ 1) (eqb number 0) (effect M l bytes x) l
+outcome-active l bytes x number l′ O h =
+    subst (λ (k : Lent). k .held .head .active ≤ 1) (sym (O .leaves))
+    (cond-has (λ (k : Lent). k .held .head .active ≤ 1) (eqb number taken) (effect l bytes x) l
     (cond-has (λ (n : ℕ). n ≤ 1) (activeAfter (isActive l) (stepOf x)) 1 0 (omega arith) (omega arith)) h)

@@ -10,7 +10,8 @@ use Rattle.limits.specs.Layout.{labelAdded, labelCallData, labelArgument, label
 use Rattle.labels.specs.declared.Label.the-variants.{Unlabelled, CallData, Arg, IsZeroResult}
 use Rattle.labels.specs.Label.{valAt, labelOf, labelAt}
 use Rattle.labels.specs.Step.{stepOf}
-use Rattle.keeping.specs.Fits.{IsU32, AreU32, LabelFits, StepFits}
+use Rattle.analyze.proofs.Proper.{LabelFits, StepFits}
+use Rattle.keeping.specs.Fits.{IsU32, AreU32}
 
 -- a number that is not there is read as 0
 u32-at : (xs : List ℕ) → AreU32 xs → (i : ℕ) → IsU32 (getD xs i 0)
@@ -26,7 +27,8 @@ label-fits xs at h =
     let k = getD xs at 0 in
     go (eqb k labelArgument) (eqb k labelZeroTest) (eqb k labelCallData)
   where
-    go : (a b c : Bool) → LabelFits (cond a (Arg (valAt xs at)) (cond b (IsZeroResult (valAt xs at)) (cond c CallData Unlabelled)))
+    go : (a b c : Bool)
+        → LabelFits (cond a (Arg (valAt xs at)) (cond b (IsZeroResult (valAt xs at)) (cond c CallData Unlabelled)))
     go true b c = u32-at xs h (at + labelAdded)
     go false true c = tt
     go false false true = tt

@@ -1,11 +1,2 @@
-pub mod Laws
-pub mod Given
-pub mod Storing
-pub mod Phasing
-pub mod Loading
-pub mod Summing
-pub mod Measuring
-pub mod NamingArms
-pub mod Stepping
 pub mod Fitting
 pub mod Calling

@@ -1,4 +1,5 @@
--- Which paths the operations on kinds and the fill add: none, and those of the first words; no path moves. Assumes nothing.
+-- Which paths the operations on kinds and the fill add: none, and those of the first words; no path moves. Assumes
+-- nothing.
 use Prim.Native.Nat.{ℕ, zero, suc, _*_, _<_}
 use mathlib.Core.Path.{_≡_, refl, sym, ap, _∙_}
 use mathlib.Core.Bool.{cond, _&&_}
@@ -61,9 +62,6 @@ module _ (s : List Node) (r count : ℕ) where
   -- how many paths are added, for question 8 (`length-fill` says it of the fill)
   pub length-set-dynamic : length (setDynamic s r count) ≡ length s
   length-set-dynamic = same-set-dynamic .size
-
-  pub length-set-array : length (setArray s r count) ≡ length s
-  length-set-array = same-set-array .size
 
 -- the fill moves no path
 pub paths-fill : (s : List Node) (words : ℕ) → take (length s) (paths (fill s words)) ≡ paths s

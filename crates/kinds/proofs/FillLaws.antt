@@ -1,4 +1,5 @@
--- Filling the head word by word: what a word adds does not depend on the words before it, so the room can be known before any is made. Assumes
+-- Filling the head word by word: what a word adds does not depend on the words before it, so the room can be known
+-- before any is made. Assumes
 -- nothing.
 use Prim.Native.Nat.{ℕ, zero, suc, _+_, _*_, _≤_, _<_}
 use mathlib.Core.Path.{_≡_, refl, sym, ap, _∙_}

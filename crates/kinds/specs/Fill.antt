@@ -1,4 +1,5 @@
--- The closing's fill: "`direct_min_calldata_words`, overridden by `dense_min_calldata_words`, fills the head as in the tail"; "the closing's fill goes by rising
+-- The closing's fill: "`direct_min_calldata_words`, overridden by `dense_min_calldata_words`, fills the head as in the
+-- tail"; "the closing's fill goes by rising
 -- key". Assumes nothing: these are definitions.
 use Prim.Native.Nat.{ℕ, zero, suc, _+_, _*_}
 use mathlib.Core.List.{List}

@@ -25,7 +25,8 @@ dynamicAt s r count =
 abbrev pub arrayAt : List Node → ℕ → ℕ → List Node
 arrayAt s r count = cond (eqb (nodeOf s r .kind) kindArray && ltb count (nodeOf s r .count)) s (giveKind s r kindArray count)
 
--- `set_info` with Dynamic(count): the path r is made seen first; the root has no kind. r is a record that is there: the Rust makes the path, and here the step
+-- `set_info` with Dynamic(count): the path r is made seen first; the root has no kind. r is a record that is there: the
+-- Rust makes the path, and here the step
 -- makes it first
 unfoldable pub setDynamic : List Node → ℕ → ℕ → List Node
 setDynamic s r count = cond (eqb r 1) s (dynamicAt (makeSeen s r) r count)
@@ -34,7 +35,8 @@ setDynamic s r count = cond (eqb r 1) s (dynamicAt (makeSeen s r) r count)
 unfoldable pub setArray : List Node → ℕ → ℕ → List Node
 setArray s r count = cond (eqb r 1) s (arrayAt (makeSeen s r) r count)
 
--- how many arrays stand on the path of r, itself included (`array_in_path`); n is as many turns as that can take
+-- how many arrays stand on the path of r, itself included (`array_in_path`, decision D22); n is as many turns as that
+-- can take
 unfoldable pub arraysUp : ℕ → List Node → ℕ → ℕ
 arraysUp zero s r = 0
 arraysUp (suc n) s r = cond (eqb r 0) 0 (cond (eqb (nodeOf s r .kind) kindArray) 1 0 + arraysUp n s (nodeOf s r .parent))

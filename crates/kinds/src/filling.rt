@@ -53,7 +53,8 @@ pub fn fill_missing(table: &[u32], n: u32, used: u32, words: u32) -> u32
     absent
 }
 
-// Makes the paths of the first words, and makes them seen; returns how many records are used then. The root's chain is walked once, as above.
+// Makes the paths of the first words, and makes them seen; returns how many records are used then. The root's chain is
+// walked once, as above.
 pub fn fill(table: &mut [u32], n: u32, used: u32, words: u32) -> u32
     requires { ⌜ Shaped (now table) used n ⌝ }
     requires { ⌜ (words ≤ argumentWordsMax) × (n ≤ recordsMax) ⌝ }

@@ -1,4 +1,5 @@
-// Kinds and counts of the facts, and the closing's fill of the head. specs/ has each operation over the state that a table stands for.
+// Kinds and counts of the facts, and the closing's fill of the head. specs/ has each operation over the state that a
+// table stands for.
 mod dynamic;
 mod filling;
 mod info;

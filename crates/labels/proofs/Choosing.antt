@@ -15,14 +15,11 @@ use Rattle.labels.specs.declared.Element.{Element}
 use Rattle.labels.specs.declared.Choice.{Choice}
 use Rattle.labels.specs.declared.Choice.the-variants.{Chosen, Neither}
 use Rattle.labels.proofs.Label.{the-type}
-use Rattle.labels.specs.Operands.{onArg, onZeroTest, isUnmasked, isLength, isPlainLength, isPlain, chosenOr, choose, sameArg, isLengthOf}
+use Rattle.labels.specs.Operands.{onArg, isUnmasked, isLength, isPlainLength, isPlain, chosenOr, choose, sameArg, isLengthOf}
 
--- no argument's label, and no zero test's
+-- no argument's label
 abbrev pub NoArg : Label → Type 0
 NoArg l = (v : Val) → l ≡ Arg v → ⊥
-
-abbrev pub NoZeroTest : Label → Type 0
-NoZeroTest l = (v : Val) → l ≡ IsZeroResult v → ⊥
 
 -- a label of another kind is no argument
 pub not-arg : (l : Label) → OneOf (0 ∷ 1 ∷ 3 ∷ []) (tagOf the-type l) → NoArg l
@@ -31,14 +28,6 @@ not-arg l h v e =
     (λ (q : 2 ≡ 0). omega (arith, q))
     (⊎-elim (λ (q : 2 ≡ 1). omega (arith, q)) (λ (q : 2 ≡ 3). omega (arith, q)))
     (subst (λ (x : Label). OneOf (0 ∷ 1 ∷ 3 ∷ []) (tagOf the-type x)) e h)
-
--- nor a zero test
-pub not-zero : (l : Label) → OneOf (0 ∷ 1 ∷ 2 ∷ []) (tagOf the-type l) → NoZeroTest l
-not-zero l h v e =
-    ⊎-elim
-    (λ (q : 3 ≡ 0). omega (arith, q))
-    (⊎-elim (λ (q : 3 ≡ 1). omega (arith, q)) (λ (q : 3 ≡ 2). omega (arith, q)))
-    (subst (λ (x : Label). OneOf (0 ∷ 1 ∷ 2 ∷ []) (tagOf the-type x)) e h)
 
 -- a label whose case is known
 pub on-arg : {A : Type 0} (l : Label) (f : Val → A) (d : A) (v : Val) → l ≡ Arg v → f v ≡ onArg l f d
@@ -49,15 +38,6 @@ on-none Unlabelled f d n = refl
 on-none CallData f d n = refl
 on-none (Arg v) f d n = absurd (n v refl)
 on-none (IsZeroResult v) f d n = refl
-
-pub on-zero : {A : Type 0} (l : Label) (f : Val → A) (d : A) (v : Val) → l ≡ IsZeroResult v → f v ≡ onZeroTest l f d
-on-zero l f d v e = sym (ap (λ (x : Label). onZeroTest x f d) e)
-
-pub on-no-zero : {A : Type 0} (l : Label) (f : Val → A) (d : A) → NoZeroTest l → d ≡ onZeroTest l f d
-on-no-zero Unlabelled f d n = refl
-on-no-zero CallData f d n = refl
-on-no-zero (Arg v) f d n = refl
-on-no-zero (IsZeroResult v) f d n = absurd (n v refl)
 
 pub length-is : (v : Val) → (eqb (v .offset) 0 && eqb (v .«add_val») 0) ≡ isLength v
 unfolding isLength

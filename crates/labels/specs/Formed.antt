@@ -1,4 +1,5 @@
--- Question 5: "Are all labels and replaced marks well formed, each path of kind 2 or 3 a used record?" Assumes nothing: these are definitions.
+-- Question 5: "Are all labels and replaced marks well formed, each path of kind 2 or 3 a used record?" Assumes nothing:
+-- these are definitions.
 use Prim.Native.Nat.{ℕ, _+_, _-_, _*_, _/_}
 use mathlib.Core.Bool.{Bool, cond, _&&_}
 use mathlib.Core.List.{List}
@@ -12,7 +13,8 @@ use Rattle.limits.specs.Layout.{wordWidth, labelWidth, labelOffset, labelPath, 
 abbrev pub isMask : List ℕ → ℕ → Bool
 isMask s at = cond (eqb (getD s (at + labelMasked) 0) 0) (zeros s (at + labelMask) wordWidth) (eqb (getD s (at + labelMasked) 0) 1)
 
--- is the label at `at` well formed? "Kinds 0 and 1 .. have zero in what they don't use"; "each path of kind 2 or 3 a used record"
+-- is the label at `at` well formed? "Kinds 0 and 1 .. have zero in what they don't use"; "each path of kind 2 or 3 a
+-- used record"
 unfoldable pub isLabel : ℕ → List ℕ → ℕ → Bool
 isLabel used s at =
     cond (leb (getD s at 0) labelCallData) (zeros s (at + labelOffset) (labelWidth - labelOffset))

@@ -1,4 +1,5 @@
--- A label's 13 numbers: "kind 0 to 3 in that order, offset, path (a record number), added value, masked (0 or 1), mask". Assumes nothing: these are
+-- A label's 13 numbers: "kind 0 to 3 in that order, offset, path (a record number), added value, masked (0 or 1),
+-- mask". Assumes nothing: these are
 -- definitions.
 use Prim.Native.Nat.{ℕ, _+_}
 use mathlib.Core.Bool.{cond}

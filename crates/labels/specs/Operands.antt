@@ -1,4 +1,5 @@
--- What a step asks of its operands: the Rust's patterns `elabel!` and `match_first_two!`. Assumes nothing: these are definitions.
+-- What a step asks of its operands: the Rust's patterns `elabel!` and `match_first_two!`. Assumes nothing: these are
+-- definitions.
 use Prim.Native.Nat.{ℕ}
 use mathlib.Core.Bool.{Bool, true, false, cond, _&&_}
 use lib.Dec.{eqb}
@@ -18,13 +19,6 @@ onArg CallData f d = d
 onArg (Arg v) f d = f v
 onArg (IsZeroResult v) f d = d
 
--- the same of a zero test's label
-abbrev pub onZeroTest : {A : Type 0} → Label → (Val → A) → A → A
-onZeroTest Unlabelled f d = d
-onZeroTest CallData f d = d
-onZeroTest (Arg v) f d = d
-onZeroTest (IsZeroResult v) f d = f v
-
 abbrev pub isArg : Label → Bool
 isArg l = onArg l (λ v. true) false
 
@@ -38,7 +32,8 @@ abbrev pub isUnmasked : Mask → Bool
 isUnmasked Unmasked = true
 isUnmasked (Masked m) = false
 
--- the patterns of a label that the arms ask for: any; `offset: 0, add_val: 0`; these with `and_mask: None`; `and_mask: None`
+-- the patterns of a label that the arms ask for: any; `offset: 0, add_val: 0`; these with `and_mask: None`; `and_mask:
+-- None`
 abbrev pub isAny : Val → Bool
 isAny v = true
 
@@ -63,6 +58,6 @@ choose test a b = chosenOr test a b (chosenOr test b a Neither)
 unfoldable pub sameArg : Val → Val → Bool
 sameArg v w = eqb (v .offset) (w .offset) && eqb (v .path) (w .path) && eqb (v .«add_val») (w .«add_val»)
 
--- is it the length at that path (reading: "kind 2, offset 0, that path, added 0, masked or not")?
+-- is it the length at that path: kind 2, offset 0, that path, added 0, masked or not (decision D10)?
 unfoldable pub isLengthOf : ℕ → Label → Bool
 isLengthOf path l = onArg l (λ v. isLength v && eqb (v .path) path) false

@@ -1,4 +1,5 @@
--- Operands and steps: "Step (59): op, pc after the step, two operands as slots, pick, load flag, load label." Assumes nothing: these are definitions.
+-- Operands and steps: "Step (59): op, pc after the step, two operands as slots, pick, load flag, load label." Assumes
+-- nothing: these are definitions.
 use Prim.Native.Nat.{ℕ, _+_}
 use mathlib.Core.List.{List, [], _∷_, _++_}
 use lib.ListN.{getD}
@@ -15,7 +16,8 @@ elementAt s at = record { word = limbsAt s at; label = labelAt s (at + slotLabel
 abbrev pub elementNumbers : Element → List ℕ
 elementNumbers e = numbersOf (e .word) ++ labelNumbers (e .label)
 
--- the step that 59 numbers say. A load flag of 0 goes with a load label of kind 0 (question 6), so the label alone tells
+-- the step that 59 numbers say. A load flag of 0 goes with a load label of kind 0 (question 6), so the label alone
+-- tells
 unfoldable pub stepOf : List ℕ → Step
 stepOf s = record {
   op = getD s stepOp 0;

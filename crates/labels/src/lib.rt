@@ -1,4 +1,5 @@
-// Labels, and the slots, entries and steps that hold them, from and to numbers. Nothing here knows what a path leads to.
+// Labels, and the slots, entries and steps that hold them, from and to numbers. Nothing here knows what a path leads
+// to.
 mod check;
 mod operands;
 mod read;
@@ -36,7 +37,8 @@ pub enum Mask {
     Masked(U256),
 }
 
-// What an argument's label says: the argument at an offset below a path, with a constant added and a mask applied. A path is a record's number.
+// What an argument's label says: the argument at an offset below a path, with a constant added and a mask applied. A
+// path is a record's number.
 pub struct Val {
     pub offset: u32,
     pub path: u32,

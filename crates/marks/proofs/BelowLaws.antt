@@ -1,5 +1,5 @@
 -- Nodes at or below a node, and what clearing one branch after another comes to, over states. Assumes nothing.
-use Prim.Native.Nat.{ℕ, zero, suc, _+_, _-_, _≤_, _<_}
+use Prim.Native.Nat.{ℕ, zero, suc, _+_, _≤_, _<_}
 use mathlib.Core.Path.{_≡_, refl, sym, ap, _∙_}
 use mathlib.Core.Bool.{Bool, true, false, cond}
 use mathlib.Core.Logic.{_⊎_, inl, inr, ⊎-elim}
@@ -8,7 +8,7 @@ use native.Mathlib.Omega.{arith}
 use native.Mathlib.Decide.{ℕ-discrete}
 use native.Mathlib.Nat.{eq-or-lt-of-le}
 use lib.ListN.{length, length-map, List·getD-map}
-use lib.Seq.{ext-getD, getD-set-same, getD-set-other}
+use lib.Seq.{ext-getD}
 use Rattle.limits.specs.Codes as code
 use Rattle.limits.specs.Fields as field
 use Rattle.facts.specs.State.{Node, bare, nodeOf}
@@ -16,6 +16,9 @@ use Rattle.facts.proofs.Laws.{lt-or-ge}
 use Rattle.paths.specs.Update.{withField, update}
 use Rattle.paths.specs.Order.{Ordered}
 use Rattle.paths.proofs.Kept.{length-update}
+use Rattle.paths.proofs.Reach.{update-other}
+use Rattle.paths.proofs.Alike.{map-node}
+use Rattle.paths.proofs.Sounds.{update-here}
 use Rattle.marks.specs.Names.{isRange, dropName}
 use Rattle.marks.specs.Hints.{withoutRange, dropRange, clearRangeHints}
 use Rattle.marks.specs.Below.{upFrom, AtOrBelow, ClearsBelow}
@@ -70,15 +73,7 @@ then-either : (n m k : Node) → Either n m → Either m k → Either n k
 then-either n m k e (inl q) = ⊎-elim (λ (w : m ≡ n). inl (q ∙ w)) (λ (w : m ≡ withoutRange n). inr (q ∙ w)) e
 then-either n m k e (inr q) = inr (then-cleared n m k e q)
 
--- one field of one node changed
-update-same : (s : List Node) (r f v : ℕ) → 1 ≤ r → r ≤ length s → nodeOf (update s r f v) r ≡ withField f v (nodeOf s r)
-unfolding update nodeOf
-update-same s r f v r1 h = getD-set-same s (r - 1) (withField f v (nodeOf s r)) (bare 0 0) (omega arith)
-
-update-other : (s : List Node) (r f v q : ℕ) → 1 ≤ r → 1 ≤ q → (q ≡ r → ⊥) → nodeOf (update s r f v) q ≡ nodeOf s q
-unfolding update nodeOf
-update-other s r f v q r1 q1 n = getD-set-other s (r - 1) (q - 1) (withField f v (nodeOf s r)) (bare 0 0) (λ e. n (omega arith))
-
+-- one node changed
 module _ (s : List Node) (r : ℕ) (r1 : 1 ≤ r) (rs : r ≤ length s) where
   drop-same : nodeOf (dropRange s r) r ≡ withoutRange (nodeOf s r)
   drop-same = go (isRange (nodeOf s r))
@@ -86,8 +81,8 @@ module _ (s : List Node) (r : ℕ) (r1 : 1 ≤ r) (rs : r ≤ length s) where
       go : (b : Bool) → nodeOf (cond b (dropName s r) s) r ≡ cond b (withField field.confidence 0 (withField field.name code.noName (nodeOf s r))) (nodeOf s r)
       go true =
           let l = length-update s r field.name code.noName in
-          update-same (update s r field.name code.noName) r field.confidence 0 r1 (omega arith)
-          ∙ ap (withField field.confidence 0) (update-same s r field.name code.noName r1 rs)
+          update-here (update s r field.name code.noName) r field.confidence 0 r1 (omega arith)
+          ∙ ap (withField field.confidence 0) (update-here s r field.name code.noName r1 rs)
       go false = refl
 
   drop-other : (q : ℕ) → 1 ≤ q → (q ≡ r → ⊥) → nodeOf (dropRange s r) q ≡ nodeOf s q
@@ -106,13 +101,13 @@ module _ (s : List Node) (r : ℕ) (r1 : 1 ≤ r) (rs : r ≤ length s) where
       go (no n) = inl (drop-other q q1 n)
 
 -- going up
-node-zero : (s : List Node) → nodeOf s 0 ≡ nodeOf s 1
+node-zero : (s : List Node) → nodeOf s 0 .parent ≡ 0
 unfolding nodeOf
 node-zero s = refl
 
 module _ (s : List Node) (O : Ordered s) where
   parent-low : (q : ℕ) → q ≤ length s → nodeOf s q .parent ≤ q
-  parent-low zero h = let z = ap (λ (n : Node). n .parent) (node-zero s) in let o = O .root in omega arith
+  parent-low zero h = let z = node-zero s in omega arith
   parent-low (suc zero) h = let o = O .root in omega arith
   parent-low (suc (suc q)) h = let l = O .lower (suc (suc q)) (omega arith) h in omega arith
 
@@ -123,8 +118,7 @@ module _ (s : List Node) (O : Ordered s) where
 
   module _ (s′ : List Node) (same : (q : ℕ) → 1 ≤ q → q ≤ length s → nodeOf s′ q .parent ≡ nodeOf s q .parent) where
     same-zero : (q : ℕ) → q ≤ length s → nodeOf s′ q .parent ≡ nodeOf s q .parent
-    same-zero zero h =
-        ap (λ (n : Node). n .parent) (node-zero s′) ∙ same 1 (omega arith) (O .some) ∙ sym (ap (λ (n : Node). n .parent) (node-zero s))
+    same-zero zero h = node-zero s′ ∙ sym (node-zero s)
     same-zero (suc q) h = same (suc q) (omega arith) h
 
     up-same : (q n : ℕ) → q ≤ length s → upFrom s′ q n ≡ upFrom s q n
@@ -178,7 +172,7 @@ below-split s p q O p1 h B = go (B .steps) (B .is)
     )
       where
         some : (x : ℕ) → nodeOf s x .parent ≡ p → 1 ≤ x
-        some zero w = let z = ap (λ (y : Node). y .parent) (node-zero s) in let o = O .root in absurd (omega arith)
+        some zero w = let z = node-zero s in absurd (omega arith)
         some (suc x) w = omega arith
 
 up-first : (s : List Node) (q n : ℕ) → upFrom s (nodeOf s q .parent) n ≡ upFrom s q (suc n)
@@ -275,15 +269,11 @@ pub all-cleared : (s s′ : List Node) → Ordered s → ClearsBelow s 1 s′ �
 unfolding clearRangeHints nodeOf
 all-cleared s s′ O D =
     ext-getD (bare 0 0) s′ (map (λ n. withoutRange n) s) (D .size ∙ sym (length-map s (λ n. withoutRange n)))
-    (λ i h. let e = D .size in let q : suc i - 1 ≡ i = omega arith in
-    rw q at (D .below (suc i) (omega arith) (omega arith) (below-root s (suc i) (suc i) O (omega arith) (omega arith) (omega arith)))
+    (λ i h. let e = D .size in
+    D .below (suc i) (omega arith) (omega arith) (below-root s (suc i) (suc i) O (omega arith) (omega arith) (omega arith))
     ∙ sym (List·getD-map (λ n. withoutRange n) s i (bare 0 0)))
 
 -- it moves no path and no number
 node-cleared : (s : List Node) (q : ℕ) → nodeOf (clearRangeHints s) q ≡ withoutRange (nodeOf s q)
-unfolding clearRangeHints nodeOf
-node-cleared s q = List·getD-map (λ n. withoutRange n) s (q - 1) (bare 0 0)
-
-pub length-cleared : (s : List Node) → length (clearRangeHints s) ≡ length s
 unfolding clearRangeHints
-length-cleared s = length-map s (λ n. withoutRange n)
+node-cleared s q = map-node (λ n. withoutRange n) refl s q

@@ -1,4 +1,5 @@
--- Which paths the operations on names, marks and hints add: one at most, the stated one, and no path moves. Assumes nothing.
+-- Which paths the operations on names, marks and hints add: one at most, the stated one, and no path moves. Assumes
+-- nothing.
 use Prim.Native.Nat.{ℕ, _+_, max}
 use mathlib.Core.Path.{_≡_, refl, ap}
 use mathlib.Core.Bool.{Bool, true, false, cond, not, _&&_, _||_, and-eq-true-iff}
@@ -28,10 +29,6 @@ there r b e = eqb-false r 0 (not-true (eqb r 0) (and-eq-true-iff (not (eqb r 0))
 module _ (s : List Node) (p k : ℕ) where
   pub marked-there : isNotBool s p k ≡ true → findIn s p k ≡ 0 → ⊥
   marked-there e = there (findIn s p k) (eqb (nodeOf s (findIn s p k) .notBool) 1) e
-
-  pub hint-there : hasRangeHint s p k ≡ true → findIn s p k ≡ 0 → ⊥
-  unfolding hasRangeHint
-  hint-there e = got-node s p k (there (getMut s p k) (isRange (nodeOf s (getMut s p k))) e) .there
 
 -- a name at a node moves no path
 pub alike-name : (s : List Node) (r name confidence : ℕ) → Alike s (nameAt s r name confidence)
@@ -95,16 +92,3 @@ module _ (s : List Node) (p k : ℕ) where
 
   pub same-clear-range-hint : (block : ℕ) → SamePaths s (clearRangeHint s p k block)
   same-clear-range-hint block = alike-same s (clearRangeHint s p k block) (alike-clear-range-hint s p k block)
-
-  -- how many paths are added, for question 8
-  pub length-set-tname : (name confidence : ℕ) → length (setTname s p k name confidence) ≡ length s + missing s p k
-  length-set-tname name confidence = adds-set-tname name confidence .size
-
-  pub length-insert-not-bool : length (insertNotBool s p k) ≡ length s + missing s p k
-  length-insert-not-bool = adds-insert-not-bool .size
-
-  pub length-mark-not-bool : length (markNotBool s p k) ≡ length s + missing s p k
-  length-mark-not-bool = adds-mark-not-bool .size
-
-  pub length-clear-range-hint : (block : ℕ) → length (clearRangeHint s p k block) ≡ length s
-  length-clear-range-hint block = same-clear-range-hint block .size

@@ -1,4 +1,5 @@
--- Every range name dropped at once, as a change of each node: the state stays formed and no path moves. Assumes nothing.
+-- Every range name dropped at once, as a change of each node: the state stays formed and no path moves. Assumes
+-- nothing.
 use Prim.Native.Nat.{ℕ}
 use mathlib.Core.Path.{_≡_, refl}
 use mathlib.Core.Bool.{Bool, true, false, cond}

@@ -44,7 +44,8 @@ module _ (t : List ℕ) (u N r w : ℕ) (r1 : 1 ≤ r) (ru : r ≤ u) (ew : w �
       (case-no (isRange (nodeOf (nodes t u) r)) (dropName (nodes t u) r) (nodes t u)
       (ne-eqb (nodeOf (nodes t u) r .confidence) rangeConfidence (λ z. n (confidence-is t u r w r1 ru ew ∙ z))))
 
--- the walk has come to c: the branches of the children with keys below low are cleared, and t₁ is the table that it began with
+-- the walk has come to c: the branches of the children with keys below low are cleared, and t₁ is the table that it
+-- began with
 pub record Clearing (t₁ : List ℕ) (used N p : ℕ) (t : List ℕ) (c : ℕ) : Type 0 where
   pub begun : Shaped t₁ used N
   pub shaped : Shaped t used N

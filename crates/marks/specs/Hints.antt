@@ -1,4 +1,5 @@
--- Range hints, which are range names, over the state: `clear_range_hint`, `has_range_hint`, `clear_range_hints`. Assumes nothing: these are
+-- Range hints, which are range names, over the state: `clear_range_hint`, `has_range_hint`, `clear_range_hints`.
+-- Assumes nothing: these are
 -- definitions.
 use Prim.Native.Nat.{ℕ, max}
 use mathlib.Core.Bool.{Bool, cond, not, _&&_}
@@ -34,6 +35,7 @@ withoutRange n = cond (isRange n) (withField field.confidence 0 (withField field
 abbrev pub dropRange : List Node → ℕ → List Node
 dropRange s r = cond (isRange (nodeOf s r)) (dropName s r) s
 
--- `Info::clear_range_hints` of the root: over all facts (an unseen record of a sound table has no name)
+-- `Info::clear_range_hints` of the root: over all facts, since an unseen record of a sound table has no name
+-- (decision D36)
 unfoldable pub clearRangeHints : List Node → List Node
 clearRangeHints s = map withoutRange s

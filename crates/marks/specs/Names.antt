@@ -1,4 +1,5 @@
--- Names and not-bool marks, over the state: `set_tname`, `mark_not_bool` and the range rule's own mark. p is the record of a label's path and k its offset,
+-- Names and not-bool marks, over the state: `set_tname`, `mark_not_bool` and the range rule's own mark. p is the record
+-- of a label's path and k its offset,
 -- so the fact is the one of that path with the key k at its end. Assumes nothing: these are definitions.
 use Prim.Native.Nat.{ℕ}
 use mathlib.Core.Bool.{Bool, cond, not, _&&_, _||_}
@@ -38,7 +39,8 @@ nameAt s r name confidence =
 abbrev pub nameMade : Made → ℕ → ℕ → List Node
 nameMade m name confidence = nameAt (m .state) (m .number) name confidence
 
--- `set_tname`: "Bool and range names stop at a not-bool mark before any record is made seen. A blocked range name stops after that."
+-- `set_tname`: "Bool and range names stop at a not-bool mark before any record is made seen. A blocked range name stops
+-- after that." (decision D21)
 unfoldable pub setTname : List Node → ℕ → ℕ → ℕ → ℕ → List Node
 setTname s p k name confidence =
     cond ((eqb name code.bool || eqb confidence rangeConfidence) && isNotBool s p k) s

@@ -1,4 +1,5 @@
-// Names, not-bool marks and range hints of the facts, under the Rust's names. specs/ has each operation over the state that a table stands for.
+// Names, not-bool marks and range hints of the facts, under the Rust's names. specs/ has each operation over the state
+// that a table stands for.
 mod hint;
 mod name;
 mod walk;

@@ -73,7 +73,8 @@ fn is_not_bool(table: &[u32], n: u32, used: u32, p: u32, k: u32, prev: u32, next
     field(table, c, NOT_BOOL) == 1
 }
 
-// Sets a name at the path of p with the key k at its end, and answers how many records are used then. The chain is walked once.
+// Sets a name at the path of p with the key k at its end, and answers how many records are used then. The chain is
+// walked once.
 pub fn set_tname(
     table: &mut [u32],
     n: u32,
@@ -125,7 +126,8 @@ fn drop_bool(table: &mut [u32], n: u32, used: u32, r: u32)
     }
 }
 
-// Marks the path not-bool, and drops a bool or a range name there. The path is made first, so that it is looked up once: a new one is unseen.
+// Marks the path not-bool, and drops a bool or a range name there. The path is made first, so that it is looked up
+// once: a new one is unseen.
 pub fn mark_not_bool(table: &mut [u32], n: u32, used: u32, p: u32, k: u32) -> u32
     requires { ⌜ Shaped (now table) used n ⌝ }
     requires { ⌜ (1 ≤ p) × (p ≤ used) × (n ≤ recordsMax) ⌝ }

@@ -23,7 +23,8 @@ fn drop_range(table: &mut [u32], n: u32, used: u32, r: u32)
     }
 }
 
-// Clears record p and all below it. A child's number is higher than its parent's, so that fewer numbers are left above it.
+// Clears record p and all below it. A child's number is higher than its parent's, so that fewer numbers are left above
+// it.
 fn clear_below(table: &mut [u32], n: u32, used: u32, p: u32)
     requires { ⌜ Shaped (now table) used n ⌝ }
     requires { ⌜ (1 ≤ p) × (p ≤ used) ⌝ }

@@ -1,1 +1,3 @@
-pub mod Added
+pub mod Run
+pub mod Asks
+pub mod Frame

@@ -1,4 +1,5 @@
--- "P1 to P12 are shown in one table with one result over the definitions": the result, by one test that the prover computes. It opens each definition that the
+-- "P1 to P12 are shown in one table with one result over the definitions": the result, by one test that the prover
+-- computes. It opens each definition that the
 -- readings come through. Assumes nothing.
 use mathlib.Core.Path.{refl}
 use Rattle.mask.specs.Mask.{lowOnes, leadingFf, bytesOf, andMaskToType}
@@ -16,11 +17,12 @@ use Rattle.opcode.specs.Lists.{listed, operandClearers, decoderEnders, calls, s
 use Rattle.word.specs.Multiplier.{isArrayMark, multiplierOf}
 use Rattle.code.specs.Bytes.{pushSizeAt}
 use Rattle.code.specs.Length.{directSize, directMinCalldataWords}
-use Rattle.analyze.specs.Analyze.{analyze}
-use Rattle.analyze.specs.Arms.{byOpcode}
-use Rattle.analyze.specs.Length.{lengthMarked, multiply, mul}
-use Rattle.analyze.specs.Load.{isWholeWord, followed, loadedFacts, isFollowed, unlabelledFacts, loadFacts}
-use Rattle.analyze.specs.Phases.{clearOperands, clearHints, rangeRule, activeAfter}
+use Rattle.operations.specs.Run.{run, runAll}
+use Rattle.analyze.specs.Analyze.{planOf, runPlan, analyze}
+use Rattle.analyze.specs.Arms.{armBy}
+use Rattle.analyze.specs.Length.{multiply, mul}
+use Rattle.analyze.specs.Load.{isWholeWord, arraysOff, newOffset, labelledLoad, isFollowed, unlabelledLoad, load}
+use Rattle.analyze.specs.Phases.{clearOperands, hintsOf, rangeRule, activeAfter}
 use Rattle.marks.specs.Names.{insertNotBool, markNotBool}
 use Rattle.kinds.specs.Fill.{fill}
 use Rattle.kinds.specs.Kinds.{setDynamic, setArray}
@@ -42,10 +44,10 @@ use Rattle.readings.specs.Table.{bench, Shown}
 
 pub bench-shown : Shown bench
 unfolding bench firstRefusal lowOnes leadingFf bytesOf andMaskToType after afterAll step-asks.sizesFit step-asks.labelsFit step-asks.fieldsFit
-    step-asks.slotThere step-asks.roomThere step-asks.refusal answerOf closing-asks.refusal closing-asks.judge fillWords filled allTo isLabel labelOf
+    step-asks.slotThere step-asks.roomThere step-asks.stepTests answerOf closing-asks.closingTests fillWords filled allTo isLabel labelOf
     isLength choose stepOf listed operandClearers decoderEnders calls slotNeeders isArrayMark multiplierOf pushSizeAt directSize
-    directMinCalldataWords analyze byOpcode lengthMarked multiply mul isWholeWord followed loadedFacts isFollowed unlabelledFacts loadFacts
-    clearOperands clearHints rangeRule activeAfter insertNotBool markNotBool fill setDynamic setArray depthUp depthOf findTo findIn getMut ensure
+    directMinCalldataWords run runAll planOf runPlan analyze armBy multiply mul isWholeWord arraysOff newOffset labelledLoad
+    isFollowed unlabelledLoad load clearOperands hintsOf rangeRule activeAfter insertNotBool markNotBool fill setDynamic setArray depthUp depthOf findTo findIn getMut ensure
     seenUp makeSeen getOrCreate withField update nodeOf ins kids kidsIn spendTo spend shallowTo shallow seenOnes lastFrom lastWord nameHolds byKind
     wordsWith typeAt listOf text count decimal nameText answerText lines.listLines lines.argsLine lines.entryLines lines.entryLine lines.decimal lines.places
 bench-shown = refl

@@ -8,11 +8,12 @@ use Rattle.limits.specs.Input.{traceRecords}
 use Rattle.limits.specs.Limits.{typesRoom}
 use Rattle.types.specs.Tree.{AbiTypes, count}
 use Rattle.facts.specs.State.{Node, nodeOf}
+use Rattle.head.specs.Asked.{firstNo}
 use Rattle.list.specs.Types.{listOf}
 use Rattle.closing.specs.declared.Packed.the-variants.{Absent}
 use Rattle.closing.specs.Words.{Handed, filled}
 use Rattle.closing.specs.Answer.{Verdict, refused, none, over, granted}
-use Rattle.closing.specs.Call.{judge}
+use Rattle.closing.specs.Call.{closingTests, answerBy}
 use Rattle.report.specs.Answer.{answerText}
 use Rattle.calls.specs.Facts.{Call, step, closing, Known, stepRefusal, closingRefusal, after, known, start}
 
@@ -60,7 +61,7 @@ trace cs ask = cond (eqb (firstRefusal start cs) 0) (ask (known records cs .fact
 
 -- the closing's answer for the facts s
 abbrev pub verdict : List Node → Verdict
-verdict s = judge records s emptyCode types
+verdict s = answerBy (firstNo (closingTests records s emptyCode types)) (filled s emptyCode)
 
 abbrev pub factsIn : List Node → Said
 factsIn s = facts (length s - 1)

@@ -1,4 +1,5 @@
--- The steps of the bench readings as numbers: "Step (59): op, pc after the step, two operands as slots, pick, load flag, load label.", with the law that a test
+-- The steps of the bench readings as numbers: "Step (59): op, pc after the step, two operands as slots, pick, load
+-- flag, load label.", with the law that a test
 -- over them shows them to be u32. Assumes nothing: these are definitions.
 use Prim.Native.Nat.{ℕ, zero, suc, _^_}
 use native.Mathlib.Nat.{not-suc-le-zero, le-of-suc-le-suc}

@@ -1,4 +1,5 @@
--- "P1 to P12 are shown in one table with one result over the definitions": the table. (`bench-shown` is the result.) Assumes nothing: these are definitions.
+-- "P1 to P12 are shown in one table with one result over the definitions": the table. (`bench-shown` is the result.)
+-- Assumes nothing: these are definitions.
 use Prim.Native.Nat.{ℕ, _+_, _-_, _^_}
 use mathlib.Core.Path.{_≡_}
 use mathlib.Core.List.{List, [], _∷_, map}
@@ -32,7 +33,8 @@ linesOfP1 =
 -- all of them, in the paper's order
 unfoldable pub bench : List Reading
 bench =
-    -- P1. "loads at word 4 unlabelled, then at (offset 0, root, added 4), then MUL of (offset 0, record 2) by 32. With one slot each it prints exactly
+    -- P1. "loads at word 4 unlabelled, then at (offset 0, root, added 4), then MUL of (offset 0, record 2) by 32. With
+    -- one slot each it prints exactly
     -- `args 1 left 8189 head 32` and `0 uint256[]` (word number, type)."
     reading P1 (trace (loadAt 4 tt ∷ loadBehind ∷ mulBy 32 tt ∷ []) printedIn) (printed linesOfP1)
     -- "P2 mask 0: none."

@@ -1,35 +1,42 @@
--- Questions 1 and 2: what each answer of the code says of the outcome. Assumes nothing.
-use Prim.Native.Nat.{ℕ, _≤_, _<_}
-use mathlib.Core.Path.{_≡_, refl, sym, subst, _∙_}
-use mathlib.Core.Bool.{Bool, true, false, not}
+-- A step that is refused leaves everything, and one that question 1 or 2 refuses is so whatever else it is handed.
+-- Assumes nothing.
+use Prim.Native.Nat.{ℕ}
+use mathlib.Core.Path.{_≡_, sym, ap, subst}
+use mathlib.Core.Bool.{Bool, false, cond}
 use mathlib.Core.List.{List}
-use native.Mathlib.Omega.{arith}
-use lib.ListN.{length}
-use Rattle.facts.specs.declared.Records.{Records}
-use Rattle.facts.specs.declared.Records.the-variants.{Count, Unfit}
-use Rattle.facts.specs.Count.{recordCount, Counted}
-use Rattle.facts.specs.Sound.{Sound, Tells}
-use Rattle.facts.proofs.Counts.{NoCount, count-counted, counted-count}
-use Rattle.facts.proofs.Telling.{told-no, told-yes}
-use Rattle.step.specs.Call.{Lent, lend, Judged, Outcome}
+use lib.Dec.{eqb}
+use Rattle.limits.specs.Questions.{taken}
+use Rattle.limits.specs.declared.refusal.Refusal.{Refusal}
+use Rattle.limits.specs.Refusal.{numberOf}
+use Rattle.limits.proofs.Refusals.{not-taken}
+use Rattle.head.specs.declared.Admitted.{Admitted}
+use Rattle.head.specs.declared.Admitted.the-variants.{Refused}
+use Rattle.head.specs.Asked.{firstNo, FirstNo, Admits, AdmittedBy}
+use Rattle.head.proofs.Asking.{sound-asked, refused-so}
+use Rattle.step.specs.declared.Planned.{Planned}
+use Rattle.step.specs.declared.Decision.{Decision}
+use Rattle.step.specs.declared.Decision.the-variants.{Accepted}
+use Rattle.step.specs.declared.Decision.the-variants as no
+use Rattle.step.specs.Decide.{Accepts, Decides}
+use Rattle.step.specs.Call.{Lent, effect, questions, testsOf, Outcome}
 
-module _ (used active : ℕ) (table stack memory bytes x : List ℕ) (r : Records) (e : r ≡ recordCount (length table)) where
-  abbrev l : Lent
-  l = lend used active table stack memory
+module _ (l : Lent) (bytes x : List ℕ) where
+  pub refused : (k : ℕ) → eqb k taken ≡ false → FirstNo (questions l bytes x) k → Outcome l bytes x k l
+  refused k z f = record { asked = f; leaves = ap (λ (b : Bool). cond b (effect l bytes x) l) (sym z) }
 
-  pub no-records : r ≡ Unfit → Outcome l bytes x 1 l
-  no-records q = Outcome.unfit (λ N C. subst (λ (z : Records). NoCount z) (sym q ∙ e ∙ counted-count (length table) N C) tt) refl refl
+  pub not-admitted : (a : Admitted) → AdmittedBy (l .held) a → (r : Refusal) → a ≡ Refused r
+      → Outcome l bytes x (numberOf r) l
+  not-admitted a is r e = refused (numberOf r) (not-taken r) (refused-so (l .held) a is (testsOf l bytes x) r e)
 
-  module _ (N : ℕ) (q : r ≡ Count N) where
-    pub counted : Counted (length table) N
-    counted = count-counted (length table) N (sym e ∙ q)
+  -- with a sound table the tests decide
+  pub refused-by : (N k : ℕ) → Admits (l .held) N → eqb k taken ≡ false → firstNo (testsOf l bytes x) ≡ k
+      → Outcome l bytes x k l
+  refused-by N k A z e = refused k z (sound-asked (l .held) (testsOf l bytes x) N k A (sym e))
 
-    pub high-active : 1 < active → Outcome l bytes x 2 l
-    high-active h = Outcome.unsound N counted (λ S a. omega arith) refl refl
+-- what was decided
+module _ (N : ℕ) (l : Lent) (bytes x : List ℕ) (d : Decision) (D : Decides N l bytes x d) where
+  pub accepts-so : (p : Planned) → d ≡ Accepted p → Accepts N l bytes x p
+  accepts-so p e = subst (Decides N l bytes x) e D
 
-    module _ (b : Bool) (T : Tells b (Sound table used N)) where
-      pub not-sound : not b ≡ true → Outcome l bytes x 2 l
-      not-sound n = Outcome.unsound N counted (λ S a. told-no b (Sound table used N) T n S) refl refl
-
-      pub judged-so : not b ≡ false → active ≤ 1 → (number : ℕ) (l′ : Lent) → Judged N l bytes x number l′ → Outcome l bytes x number l′
-      judged-so n a number l′ J = Outcome.judged N counted (told-yes b (Sound table used N) T n) a J
+  pub refuses-so : (r : Refusal) → d ≡ no.Refused r → Outcome l bytes x (numberOf r) l
+  refuses-so r e = subst (Decides N l bytes x) e D

@@ -1,7 +1,9 @@
 pub mod Asking
-pub mod Arming
-pub mod Running
-pub mod Judging
-pub mod Taking
+pub mod Turns
+pub mod Written
+pub mod Labelled
 pub mod Arriving
+pub mod Refusing
+pub mod Planning
+pub mod Taking
 pub mod Outcomes

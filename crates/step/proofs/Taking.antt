@@ -1,77 +1,67 @@
--- A step that has passed questions 1 to 7: what question 8 and its run ask for, and that its effect is that of `analyze`. Assumes nothing.
-use Prim.Native.Nat.{ℕ, _+_, _*_, _≤_, _<_}
+-- A step that was accepted: what its run and its writing ask for, and that its effect is that of `analyze`. Assumes
+-- nothing.
+use Prim.Native.Nat.{ℕ, _*_, _≤_}
 use mathlib.Core.Path.{_≡_, refl, sym, ap, subst, _∙_}
-use mathlib.Core.Bool.{Bool, true, false, cond, not, _&&_, _||_, and-eq-true-iff}
+use mathlib.Core.Bool.{Bool, true, false, cond, not, _&&_, _||_}
 use mathlib.Core.List.{List}
+use mathlib.Core.Logic.{_⊎_, inl, inr, ⊎-elim}
 use native.Mathlib.Omega.{arith}
 use lib.Dec.{eqb, leb}
 use lib.ListN.{length, getD}
-use borrow.Author.Tests.{lt-leb, leb-true, eqb-true, not-false}
-use Rattle.limits.specs.Between.{between}
-use Rattle.limits.specs.Layout.{labelPath, labelOffset, labelCallData, labelArgument, labelZeroTest, slotWidth, slotLabel, entryWidth, stepWidth, stepOp, stepFirst, stepSecond, stepPick, stepLoad}
-use Rattle.opcode.specs.Lists.{listed, slotNeeders, decoderEnders}
+use borrow.Author.Tests.{leb-true}
+use Rattle.limits.specs.Layout.{slotWidth, entryWidth, stepOp, stepPick}
 use Rattle.facts.specs.State.{Node, nodes, encode}
 use Rattle.facts.proofs.Encode.{length-nodes}
-use Rattle.paths.proofs.Frame.{sound-shaped, shaped-encode}
-use Rattle.labels.specs.declared.Val.{Val}
-use Rattle.labels.specs.declared.Label.the-variants.{Unlabelled, CallData, Arg, IsZeroResult}
+use Rattle.paths.specs.Holds.{Holds}
+use Rattle.paths.proofs.Frame.{shaped-encode}
+use Rattle.opcode.specs.Lists.{listed, slotNeeders}
 use Rattle.labels.specs.declared.Step.{Step}
-use Rattle.labels.specs.Label.{valAt, labelOf, labelAt}
-use Rattle.zeros.specs.Zeros.{zeros}
-use Rattle.labels.specs.Formed.{isMask, isLabel, areSlots, areEntries}
 use Rattle.labels.specs.Step.{stepOf}
-use Rattle.analyze.specs.Machine.{Machine}
-use Rattle.analyze.specs.Phases.{activeAfter}
-use Rattle.analyze.specs.Analyze.{analyze}
-use Rattle.analyze.specs.Ready.{Ready, Reaches, LabelReaches, StepReaches, Leaves, lent}
-use Rattle.step.specs.Questions.{labelsFit, slotThere, roomThere, refusal}
-use Rattle.step.specs.Call.{Lent, lend, Judged, Passed, effect}
-use Rattle.step.proofs.Judging.{fit-width, fit-op, fit-pick, no, yes}
+use Rattle.operations.specs.Run.{runAll}
+use Rattle.head.specs.declared.Head.{Head}
+use Rattle.head.specs.Held.{held, recordsIn}
+use Rattle.head.proofs.Asking.{sound-asked}
+use Rattle.analyze.specs.declared.OnStack.{OnStack}
+use Rattle.analyze.specs.declared.OnStack.the-variants as stack
+use Rattle.analyze.specs.declared.InMemory.{InMemory}
+use Rattle.analyze.specs.declared.InMemory.the-variants as memory
+use Rattle.analyze.specs.declared.Plan.{Plan}
+use Rattle.analyze.specs.declared.Hints.{Hints}
+use Rattle.analyze.specs.Plan.{hintOperations, operations, loadedPath, isArray, writeStack, writeMemory}
+use Rattle.analyze.specs.Phases.{hintsOf, activeAfter}
+use Rattle.analyze.specs.Analyze.{Machine, hinted, planOf, runPlan, analyze}
+use Rattle.analyze.specs.Ready.{Ready, HintsReach, PlanReaches}
+use Rattle.analyze.proofs.Proper.{Picks}
+use Rattle.analyze.proofs.Phasing.{hints-reach}
+use Rattle.analyze.proofs.Writes.{plan-stack, plan-picks}
+use Rattle.analyze.proofs.Hinted.{hinted-plan}
+use Rattle.analyze.proofs.Stepping.{hinted-size, analyze-facts, analyze-grows}
+use Rattle.step.specs.declared.Ran.{Ran}
+use Rattle.step.specs.declared.Planned.{Planned}
+use Rattle.step.specs.Questions.{roomThere, slotThere, stepTests}
+use Rattle.step.specs.Call.{Lent, lend, machineOf, isActive, effect, testsOf, Outcome}
+use Rattle.step.specs.Decide.{RanPlan, StackFits, MemoryFits, Accepts}
+use Rattle.step.proofs.Refusing.{fit-pick}
+use Rattle.step.proofs.Planning.{passed-ready, passed-ordered, facts-reach, passed-reaches, passed-plan}
 
--- a label that is well formed reaches a used record
-module _ (used : ℕ) (s : List ℕ) (at : ℕ) where
-  path-used : isLabel used s at ≡ true → 1 < getD s at 0 → Reaches used (valAt s at)
-  unfolding isLabel
-  path-used e h =
-      let k = getD s at 0 in
-      let p = getD s (at + labelPath) 0 in
-      let f = ap (λ (b : Bool). cond b (zeros s (at + labelOffset) 12) (leb k labelZeroTest && between 1 used p && isMask s at)) (sym (lt-leb k labelCallData h)) ∙ e in
-      let g = and-eq-true-iff (leb k labelZeroTest && between 1 used p) (isMask s at) .0 f .0 in
-      let w = and-eq-true-iff (leb 1 p) (leb p used) .0 (and-eq-true-iff (leb k labelZeroTest) (between 1 used p) .0 g .1) in
-      record { from = leb-true 1 p (w .0); to = leb-true p used (w .1) }
-
-  by-kind : (b2 b3 b1 : Bool) (v : Val) → (b2 ≡ true → Reaches used v) → (b3 ≡ true → Reaches used v)
-      → LabelReaches used (cond b2 (Arg v) (cond b3 (IsZeroResult v) (cond b1 CallData Unlabelled)))
-  by-kind true b3 b1 v f g = f refl
-  by-kind false true b1 v f g = g refl
-  by-kind false false true v f g = tt
-  by-kind false false false v f g = tt
-
-  label-reaches : isLabel used s at ≡ true → LabelReaches used (labelAt s at)
-  unfolding labelOf
-  label-reaches e =
-      let k = getD s at 0 in
-      by-kind (eqb k labelArgument) (eqb k labelZeroTest) (eqb k labelCallData) (valAt s at)
-      (λ q. let z = eqb-true k labelArgument q in path-used e (omega arith))
-      (λ q. let z = eqb-true k labelZeroTest q in path-used e (omega arith))
-
-pub step-reaches : (used : ℕ) (stack memory x : List ℕ) → labelsFit used stack memory x ≡ true → StepReaches used (stepOf x)
-unfolding labelsFit stepOf
-step-reaches used stack memory x e =
-    let a = areSlots used stack && areEntries used memory in
-    let f = isLabel used x (stepFirst + slotLabel) in
-    let g = isLabel used x (stepSecond + slotLabel) in
-    let p = and-eq-true-iff (a && f && g) (isLabel used x stepLoad) .0 e in
-    let q = and-eq-true-iff (a && f) g .0 (p .0) in
-    record {
-      first = label-reaches used x (stepFirst + slotLabel) (and-eq-true-iff a f .0 (q .0) .1);
-      second = label-reaches used x (stepSecond + slotLabel) (q .1);
-      load = label-reaches used x stepLoad (p .1);
-    }
-
-slot-needed : (stack : List ℕ) (op : ℕ) → slotThere stack op ≡ true → listed op slotNeeders ≡ true → slotWidth ≤ length stack
+slot-needed : (s : List ℕ) (op : ℕ) → slotThere s op ≡ true → listed op slotNeeders ≡ true → slotWidth ≤ length s
 unfolding slotThere
-slot-needed stack op e n = leb-true slotWidth (length stack) (ap (λ (z : Bool). not z || leb slotWidth (length stack)) (sym n) ∙ e)
+slot-needed s op e n = leb-true slotWidth (length s) (ap (λ (z : Bool). not z || leb slotWidth (length s)) (sym n) ∙ e)
+
+-- a write that is kept, or a slot
+stack-fits : (w : OnStack) (s : List ℕ) → slotWidth ≤ length s → StackFits w s
+stack-fits stack.Keep s h = tt
+stack-fits (stack.Word n) s h = h
+stack-fits (stack.Label l) s h = h
+stack-fits (stack.WordLabel n l) s h = h
+stack-fits (stack.Loaded offset) s h = h
+stack-fits (stack.Ones marked word) s h = h
+
+memory-fits : (w : InMemory) (s : List ℕ) (pick : ℕ) → Picks pick w → pick * entryWidth ≤ length s → MemoryFits w s
+memory-fits memory.Keep s pick P h = tt
+memory-fits (memory.Label p l) s pick P h = rw P h
+memory-fits (memory.Loaded p offset) s pick P h = rw P h
+memory-fits (memory.Ones marked) s pick P h = tt
 
 op-is : (x : List ℕ) → stepOf x .op ≡ getD x stepOp 0
 unfolding stepOf
@@ -81,66 +71,145 @@ pick-is : (x : List ℕ) → stepOf x .pick ≡ getD x stepPick 0
 unfolding stepOf
 pick-is x = refl
 
-module _ (N used active : ℕ) (table stack memory bytes x : List ℕ) (P : Passed N (lend used active table stack memory) bytes x) where
+module _ (N : ℕ) (head : Head) (table stack memory bytes x : List ℕ) (p : Planned)
+    (A : Accepts N (lend (held head table) stack memory) bytes x p) where
   abbrev l : Lent
-  l = lend used active table stack memory
+  l = lend (held head table) stack memory
 
-  pub read-asks : (length x ≡ stepWidth) × (getD x stepOp 0 ≤ 255)
-  read-asks = (fit-width stack memory x (P .sizes), fit-op memory x (P .fields))
+  abbrev active : Bool
+  active = isActive l
 
-  module _ (s : Step) (es : s ≡ stepOf x) where
-    pub room-asks : Ready table used N × StepReaches used s × (1 ≤ used)
-    room-asks = (
-      record { shaped = sound-shaped table used N (P .sound); small = P .counted .most },
-      subst (λ (z : Step). StepReaches used z) (sym es) (step-reaches used stack memory x (P .labels)),
-      P .sound .some,
+  abbrev facts : List Node
+  facts = nodes table (head .used)
+
+  abbrev after : Machine
+  after = analyze (machineOf l) active bytes (stepOf x)
+
+  -- the facts after the hints, which no decision looks at
+  abbrev cleared : List Node
+  cleared = hinted facts active (stepOf x)
+
+  cleared-is : runAll facts (hintOperations (p .hints)) ≡ cleared
+  cleared-is = ap (λ (h : Hints). runAll facts (hintOperations h)) (A .hints)
+
+  cleared-size : length (runAll facts (hintOperations (p .hints))) ≡ head .used
+  cleared-size = ap (λ (s : List Node). length s) cleared-is ∙ hinted-size facts active (stepOf x) ∙ length-nodes table (head .used)
+
+  pub hints-asks : (Ready table (head .used) N × HintsReach (head .used) (p .hints)) × (length (runAll facts (hintOperations (p .hints))) ≤ N)
+  hints-asks =
+      let R = passed-ready N head table stack memory bytes x (A .passed) in (
+        (
+          R,
+          subst (HintsReach (head .used)) (sym (A .hints))
+              (hints-reach (head .used) active (stepOf x) (passed-reaches N head table stack memory bytes x (A .passed))),
+        ),
+        let m = R .shaped .most in let e = cleared-size in omega arith,
+      )
+
+  facts-after : after .facts ≡ runAll cleared (operations (p .plan))
+  facts-after = analyze-facts (machineOf l) active bytes (stepOf x) ∙ ap (λ (q : Plan). runAll cleared (operations q)) (sym (A .plan))
+
+  fits-after : length (after .facts) ≤ N
+  unfolding roomThere
+  fits-after = let h = leb-true (length (after .facts)) (recordsIn (held head table)) (A .room) in let e = A .passed .admitted .is in omega arith
+
+  -- the hints cleared
+  module _ (table₁ : List ℕ) (used₁ : ℕ) (H : Holds table₁ used₁ N (runAll facts (hintOperations (p .hints)))) where
+    used-same : used₁ ≡ head .used
+    used-same = sym (length-nodes table₁ used₁) ∙ ap (λ (s : List Node). length s) (H .state) ∙ cleared-size
+
+    state-is : nodes table₁ used₁ ≡ cleared
+    state-is = H .state ∙ cleared-is
+
+    pub plan-asks : (Ready table₁ used₁ N × PlanReaches used₁ (p .plan)) × (length (runAll (nodes table₁ used₁) (operations (p .plan))) ≤ N)
+    plan-asks = (
+      (
+        record { shaped = H .shaped; small = passed-ready N head table stack memory bytes x (A .passed) .small },
+        subst (λ (u : ℕ). PlanReaches u (p .plan)) (sym used-same)
+            (subst (PlanReaches (head .used)) (sym (A .plan)) (passed-plan N head table stack memory bytes x (A .passed))),
+      ),
+      let e = ap (λ (s : List Node). length (runAll s (operations (p .plan)))) state-is in
+          let f = ap (λ (s : List Node). length s) facts-after in
+          let h = fits-after in
+          omega arith,
     )
 
-    module _ (b : Bool) (room : (m : Machine) → m .facts ≡ nodes table used → b ≡ leb (length (analyze m (eqb active 1) bytes s .facts)) N) where
-      room-is : b ≡ roomThere N (lent table used stack memory) (eqb active 1) bytes x
-      unfolding roomThere
-      room-is =
-          room (lent table used stack memory) refl
-          ∙ ap (λ (z : Step). leb (length (analyze (lent table used stack memory) (eqb active 1) bytes z .facts)) N) es
+    -- what is written has its slot and its entry
+    pub stack-asks : StackFits (p .plan .stack) stack
+    stack-asks =
+        ⊎-elim (λ k. subst (λ (w : OnStack). StackFits w stack) (sym (ap (λ (q : Plan). q .stack) (A .plan) ∙ k)) tt)
+        (λ n. stack-fits (p .plan .stack) stack
+        (slot-needed stack (getD x stepOp 0) (A .passed .slot) (ap (λ (o : ℕ). listed o slotNeeders) (sym (op-is x)) ∙ n)))
+        (plan-stack facts (passed-ordered N head table stack memory bytes x (A .passed)) (stepOf x)
+        (facts-reach N head table stack memory bytes x (A .passed)) active bytes)
 
-      pub no-room : not b ≡ true → Judged N l bytes x 8 l
-      unfolding refusal
-      no-room q = record { answers = simp (P .code, P .sizes, P .labels, P .fields, P .slot, no b _ room-is q); leaves = refl }
+    pub memory-asks : MemoryFits (p .plan .memory) memory
+    memory-asks =
+        let k = plan-picks facts (passed-ordered N head table stack memory bytes x (A .passed)) (stepOf x)
+        (facts-reach N head table stack memory bytes x (A .passed)) active bytes in
+        let h = fit-pick memory x (A .passed .fields) in
+        let e = pick-is x in
+        memory-fits (p .plan .memory) memory (stepOf x .pick)
+        (subst (λ (q : Plan). Picks (stepOf x .pick) (q .memory)) (sym (A .plan)) k) (omega arith)
 
-      module _ (q : not b ≡ false) where
-        pub run-room : length (analyze (lent table used stack memory) (eqb active 1) bytes s .facts) ≤ N
-        run-room = leb-true _ N (sym (room (lent table used stack memory) refl) ∙ not-false b q)
+    module _ (table₂ : List ℕ) (r : Ran) (Q : RanPlan (nodes table₁ used₁) (p .plan) table₂ r N) where
+      abbrev left : Machine
+      left = runPlan cleared (p .plan) stack memory
 
-        pub run-slot : listed (s .op) slotNeeders ≡ true → slotWidth ≤ length stack
-        run-slot n =
-            slot-needed stack (getD x stepOp 0) (P .slot)
-            (ap (λ (z : ℕ). listed z slotNeeders) (sym (ap (λ (z : Step). z .op) es ∙ op-is x)) ∙ n)
+      -- what the plan leaves is what `analyze` does
+      left-is : left ≡ after
+      unfolding analyze
+      left-is = ap (λ (q : Plan). runPlan cleared q stack memory) (A .plan ∙ sym (hinted-plan facts active bytes (stepOf x)))
 
-        pub run-pick : s .pick * entryWidth ≤ length memory
-        run-pick = let e = ap (λ (z : Step). z .pick) es ∙ pick-is x in let h = fit-pick memory x (P .fields) in omega arith
+      facts-left : nodes table₂ (r .used) ≡ left .facts
+      unfolding runPlan
+      facts-left = Q .holds .state ∙ ap (λ (s : List Node). runAll s (operations (p .plan))) state-is
 
-        module _ (table′ stack′ memory′ : List ℕ) (used′ active′ : ℕ) (ends : Bool)
-            (L : Leaves table′ used′ N stack′ memory′ (analyze (lent table used stack memory) (eqb active 1) bytes s))
-            (ee : ends ≡ listed (s .op) decoderEnders) (ea : active′ ≡ cond (eqb active 1 && not ends) 1 0) where
-          abbrev after : Step → Machine
-          after z = analyze (lent table used stack memory) (eqb active 1) bytes z
+      path-is : r .path ≡ loadedPath cleared (p .plan .first)
+      path-is = Q .path ∙ ap (λ (s : List Node). loadedPath s (p .plan .first)) state-is
 
-          left : lend used′ active′ table′ stack′ memory′ ≡ effect N l bytes x
-          unfolding effect activeAfter
-          left = λ i. lend (u i) (a i) (t i) ((L .stack ∙ ap (λ (z : Step). after z .stack) es) i) ((L .memory ∙ ap (λ (z : Step). after z .memory) es) i)
-            where
-              f : nodes table′ used′ ≡ after (stepOf x) .facts
-              f = L .facts ∙ ap (λ (z : Step). after z .facts) es
+      array-is : r .array ≡ isArray (runAll cleared (operations (p .plan))) (loadedPath cleared (p .plan .first))
+      array-is = Q .array ∙ (λ i. isArray (runAll (state-is i) (operations (p .plan))) (path-is i))
 
-              u : used′ ≡ length (after (stepOf x) .facts)
-              u = sym (length-nodes table′ used′) ∙ ap (λ (z : List Node). length z) f
+      module _ (stack′ memory′ : List ℕ) (active′ : ℕ) (es : stack′ ≡ writeStack (p .plan .stack) (r .path) (r .array) stack)
+          (em : memory′ ≡ writeMemory (p .plan .memory) (r .path) (r .array) memory) (ea : active′ ≡ cond (p .active) 1 0) where
+        abbrev l′ : Lent
+        l′ = lend (held (record { used = r .used; active = active′ }) table₂) stack′ memory′
 
-              a : active′ ≡ cond (eqb active 1 && not (listed (stepOf x .op) decoderEnders)) 1 0
-              a = ea ∙ ap (λ (z : Bool). cond (eqb active 1 && not z) 1 0) (ee ∙ ap (λ (z : Step). listed (z .op) decoderEnders) es)
+        stack-left : stack′ ≡ left .stack
+        unfolding runPlan
+        stack-left = es ∙ (λ i. writeStack (p .plan .stack) (path-is i) (array-is i) stack)
 
-              t : table′ ≡ encode N (after (stepOf x) .facts)
-              t = shaped-encode table′ used′ N (L .shaped) ∙ ap (λ (z : List Node). encode N z) f
+        memory-left : memory′ ≡ left .memory
+        unfolding runPlan
+        memory-left = em ∙ (λ i. writeMemory (p .plan .memory) (path-is i) (array-is i) memory)
 
-          pub taken : Judged N l bytes x 0 (lend used′ active′ table′ stack′ memory′)
-          unfolding refusal
-          taken = record { answers = simp (P .code, P .sizes, P .labels, P .fields, P .slot, yes b _ room-is q); leaves = left }
+        effect-is : l′ ≡ effect l bytes x
+        unfolding effect
+        effect-is = λ i. record {
+          held = record { head = record { used = u i; active = a i }; table = t i };
+          stack = (stack-left ∙ ap (λ (m : Machine). m .stack) left-is) i;
+          memory = (memory-left ∙ ap (λ (m : Machine). m .memory) left-is) i;
+        }
+          where
+            f : nodes table₂ (r .used) ≡ after .facts
+            f = facts-left ∙ ap (λ (m : Machine). m .facts) left-is
+
+            u : r .used ≡ length (after .facts)
+            u = sym (length-nodes table₂ (r .used)) ∙ ap (λ (s : List Node). length s) f
+
+            a : active′ ≡ cond (activeAfter active (stepOf x)) 1 0
+            a = ea ∙ ap (λ (b : Bool). cond b 1 0) (A .active)
+
+            t : table₂ ≡ encode (recordsIn (held head table)) (after .facts)
+            t = shaped-encode table₂ (r .used) N (Q .holds .shaped) ∙ (λ i. encode (A .passed .admitted .is i) (f i))
+
+        pub taken : Outcome l bytes x 0 l′
+        unfolding stepTests
+        taken = record {
+          asked =
+              let P = A .passed in
+              sound-asked (held head table) (testsOf l bytes x) N 0 (P .admitted)
+              (sym (simp (P .code, P .sizes, length-nodes table (head .used), P .labels, P .fields, P .slot, A .room)));
+          leaves = effect-is;
+        }

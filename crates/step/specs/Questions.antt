@@ -1,19 +1,19 @@
 -- Questions 3 to 8, in document 01's words. Assumes nothing: these are definitions.
 use Prim.Native.Nat.{ℕ, _+_, _/_, _%_, _^_}
 use mathlib.Core.Bool.{Bool, cond, not, _&&_, _||_}
-use mathlib.Core.List.{List}
+use mathlib.Core.List.{List, [], _∷_}
 use lib.Dec.{eqb, leb, ltb}
 use lib.ListN.{length, getD}
 use Rattle.limits.specs.Limits.{codeMax, slotsMax, entriesMax}
 use Rattle.limits.specs.Layout.{slotWidth, slotLabel, entryWidth, stepWidth, stepOp, stepFirst, stepSecond, stepPick, stepLoadFlag, stepLoad}
-use Rattle.limits.specs.Questions.{taken, codeQuestion, sizesQuestion, labelsQuestion, fieldsQuestion, slotQuestion, roomQuestion}
+use Rattle.limits.specs.Questions.{codeQuestion, sizesQuestion, labelsQuestion, fieldsQuestion, slotQuestion, roomQuestion}
 use Rattle.word.specs.Numbers.{wordAt}
-use Rattle.opcode.specs.Opcode.{LT, GT, CALLDATACOPY}
+use Rattle.opcode.specs.Opcode.{CALLDATACOPY}
 use Rattle.opcode.specs.Lists.{listed, slotNeeders}
 use Rattle.labels.specs.Formed.{isLabel, areSlots, areEntries}
 use Rattle.labels.specs.Step.{stepOf}
-use Rattle.analyze.specs.Analyze.{analyze}
-use Rattle.analyze.specs.Machine.{Machine}
+use Rattle.head.specs.Asked.{Test, test}
+use Rattle.analyze.specs.Analyze.{Machine, analyze}
 
 -- 3. "Is the code at most 65,536 bytes?"
 abbrev pub codeFits : List ℕ → Bool
@@ -25,7 +25,8 @@ areWhole s width most = eqb (length s % width) 0 && leb (length s / width) most
 
 -- 4. "Are stack and memory whole slots and entries, at most 1,024 each, and the step 59 numbers?"
 unfoldable pub sizesFit : List ℕ → List ℕ → List ℕ → Bool
-sizesFit stack memory x = areWhole stack slotWidth slotsMax && areWhole memory entryWidth entriesMax && eqb (length x) stepWidth
+sizesFit stack memory x =
+    areWhole stack slotWidth slotsMax && areWhole memory entryWidth entriesMax && eqb (length x) stepWidth
 
 -- 5. "Are all labels and replaced marks well formed, each path of kind 2 or 3 a used record?"
 unfoldable pub labelsFit : ℕ → List ℕ → List ℕ → List ℕ → Bool
@@ -55,16 +56,13 @@ slotThere stack op = not (listed op slotNeeders) || leb slotWidth (length stack)
 unfoldable pub roomThere : ℕ → Machine → Bool → List ℕ → List ℕ → Bool
 roomThere N m active bytes x = leb (length (analyze m active bytes (stepOf x) .facts)) N
 
--- "the first "no" gives its number"; 0 where there is none
-unfoldable pub refusal : ℕ → ℕ → Machine → Bool → List ℕ → List ℕ → ℕ
-refusal N used m active bytes x =
-    cond (codeFits bytes)
-    (cond (sizesFit (m .stack) (m .memory) x)
-    (cond (labelsFit used (m .stack) (m .memory) x)
-    (cond (fieldsFit (m .memory) x)
-    (cond (slotThere (m .stack) (getD x stepOp 0))
-    (cond (roomThere N m active bytes x) taken roomQuestion) slotQuestion) fieldsQuestion) labelsQuestion) sizesQuestion) codeQuestion
-
--- LT or GT
-abbrev pub comparing : ℕ → Bool
-comparing op = eqb op LT || eqb op GT
+-- 3 to 8, "taken in this order", of a table of N records
+unfoldable pub stepTests : ℕ → Machine → Bool → List ℕ → List ℕ → List Test
+stepTests N m active bytes x =
+    test (codeFits bytes) codeQuestion
+    ∷ test (sizesFit (m .stack) (m .memory) x) sizesQuestion
+    ∷ test (labelsFit (length (m .facts)) (m .stack) (m .memory) x) labelsQuestion
+    ∷ test (fieldsFit (m .memory) x) fieldsQuestion
+    ∷ test (slotThere (m .stack) (getD x stepOp 0)) slotQuestion
+    ∷ test (roomThere N m active bytes x) roomQuestion
+    ∷ []

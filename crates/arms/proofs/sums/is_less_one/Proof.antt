@@ -1,6 +1,6 @@
 -- `arms::sums::is_less_one` meets its contract. Assumes nothing.
 use borrow.Author.Needs.{needs}
-use Rattle.arms.proofs.Adding.{less-one-is}
+use Rattle.arms.proofs.SumLaws.{less-one-is}
 use Rattle.arms.proofs.sums.is_less_one.Tie as tie
 use Rattle.arms.proofs.sums.is_less_one.Statement.{statement}
 

@@ -1,6 +1,6 @@
 -- `arms::sums::longer` meets its contract. Assumes nothing.
 use borrow.Author.Needs.{needs}
-use Rattle.arms.proofs.Adding.{first-wins, second-wins}
+use Rattle.arms.proofs.SumLaws.{first-longer, second-wins}
 use Rattle.arms.proofs.sums.longer.Statement.{statement}
 use Rattle.arms.proofs.sums.longer.Tie as tie
 
@@ -9,7 +9,7 @@ returns c =
     let d = c .before in
     let e = d .before in
     let s = e .before .before in
-    first-wins _ (s .args .f) (s .args .g) _ _ (e .depth-of .ensures) (d .depth-of2 .ensures) (c .if1 .taken)
+    first-longer _ (s .args .f) (s .args .g) _ _ (e .depth-of .ensures) (d .depth-of2 .ensures) (c .if1 .taken)
 
 returns-2 : tie.Need-returns-2
 returns-2 c =

@@ -1,4 +1,5 @@
--- `kinds::dynamic::has_dynamic` meets its contract: `Seeking` holds before each child. The numbers above the record fall. Assumes nothing.
+-- `kinds::dynamic::has_dynamic` meets its contract: `Seeking` holds before each child. The numbers above the record
+-- fall. Assumes nothing.
 use Prim.Native.Nat.{ℕ, _-_, _<_}
 use native.Mathlib.Omega.{arith}
 use Rattle.facts.specs.Table.{keyOf}

@@ -1,4 +1,5 @@
--- `marks::hint::clear_at` meets its contract: whichever store was made, the record is blocked as the definition says. Assumes nothing.
+-- `marks::hint::clear_at` meets its contract: whichever store was made, the record is blocked as the definition says.
+-- Assumes nothing.
 use mathlib.Core.Path.{sym, _∙_}
 use mathlib.Core.Logic.{⊎-elim}
 use denote.Ref.{now}

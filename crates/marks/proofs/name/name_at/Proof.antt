@@ -1,4 +1,5 @@
--- `marks::name::name_at` meets its contract: the two tests that an early return stands under are false after it. Assumes nothing.
+-- `marks::name::name_at` meets its contract: the two tests that an early return stands under are false after it.
+-- Assumes nothing.
 use mathlib.Core.Path.{_≡_}
 use mathlib.Core.Bool.{false}
 use mathlib.Core.Logic.{⊎-elim}

@@ -1,3 +1,0 @@
-pub mod Marking
-pub mod Multiplying
-pub mod Shifting

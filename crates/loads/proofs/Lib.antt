@@ -1,4 +1,0 @@
-pub mod Following
-pub mod Loaded
-pub mod Plain
-pub mod Loading

@@ -1,4 +1,0 @@
-pub mod Arms
-pub mod Clearing
-pub mod Ranging
-pub mod Shifts
