@@ -29,7 +29,8 @@ pastByte code at b = at + cond (isAt code at b) 1 0
 unfoldable pub pushSizeAt : List ℕ → ℕ → ℕ
 pushSizeAt code at = pushed (getElem? code at)
 
--- the number that n bytes from the place on stand for (Yellow Paper, PUSH: "The bytes are right-aligned (takes the lowest significant place in big
+-- the number that n bytes from the place on stand for (Yellow Paper, PUSH: "The bytes are right-aligned (takes the
+-- lowest significant place in big
 -- endian)"). The readings below ask it only where a byte stands behind the n
 unfoldable pub numberAt : List ℕ → ℕ → ℕ → ℕ
 numberAt code at zero = 0

@@ -17,7 +17,8 @@ abbrev pub failurePlace : Jump → Bool → Place
 failurePlace Absent falls = Nowhere
 failurePlace (To target next) falls = cond falls (At next) (At target)
 
--- the Rust's `guard_failure_pc`: where control goes if the guard fails. After value < bound the jump is taken by values in range, so that is the place
+-- the Rust's `guard_failure_pc`: where control goes if the guard fails. After value < bound the jump is taken by values
+-- in range, so that is the place
 -- behind it; after value > bound by values out of range, so it is the target. ISZERO before the push turns the two
 unfoldable pub guardFailurePc : List ℕ → ℕ → Bool → Place
 guardFailurePc code pc lessThan =

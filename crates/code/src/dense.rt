@@ -1,4 +1,5 @@
-// The least length in a packed word, as dense dispatch tables of Vyper keep it: DUP1, PUSH1 to PUSH3 of a mask, AND, CALLDATASIZE, LT.
+// The least length in a packed word, as dense dispatch tables of Vyper keep it: DUP1, PUSH1 to PUSH3 of a mask, AND,
+// CALLDATASIZE, LT.
 ghost use mathlib.Core.Path.{_≡_};
 ghost use Prim.Native.Nat.{_^_, _≤_};
 ghost use lib.Bits.{bitAnd};

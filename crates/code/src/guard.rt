@@ -11,7 +11,8 @@ use opcode::DIV;
 use opcode::ISZERO;
 use opcode::JUMPDEST;
 
-// Where control goes if the guard at pc fails: behind its jump after value < bound, to the target after value > bound. ISZERO turns the two.
+// Where control goes if the guard at pc fails: behind its jump after value < bound, to the target after value > bound.
+// ISZERO turns the two.
 pub fn guard_failure_pc(code: &[u8], pc: u32, less_than: bool) -> Place
     ensures { λ r. ⌜ r ≡ guardFailurePc (now (code .entry)) pc «less_than» ⌝ }
 {
@@ -43,7 +44,8 @@ pub fn is_empty_revert_guard(code: &[u8], pc: u32, less_than: bool) -> bool
     is_empty_revert(&code[at..])
 }
 
-// Is the double ISZERO before pc a check for zero before a division, as Solidity before 0.6.0 writes it: a jump to JUMPDEST, DIV?
+// Is the double ISZERO before pc a check for zero before a division, as Solidity before 0.6.0 writes it: a jump to
+// JUMPDEST, DIV?
 pub fn is_division_check(code: &[u8], pc: u32) -> bool
     ensures { λ r. ⌜ r ≡ isDivisionCheck (now (code .entry)) pc ⌝ }
 {

@@ -20,7 +20,8 @@ use word::sum::add;
 // The mask is no run of low ones: more than any count of bits, and no multiple of 8.
 const NO_RUN: u32 = 257;
 
-// How many low ones m is, and NO_RUN where it is anything else. m and m + 1 have no bit in common just where m + 1 is a power of two.
+// How many low ones m is, and NO_RUN where it is anything else. m and m + 1 have no bit in common just where m + 1 is a
+// power of two.
 fn low_run(m: U256) -> u32
     ensures { λ r. ⌜ Run (valueOf m) r ⌝ }
 {

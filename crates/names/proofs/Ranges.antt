@@ -7,9 +7,6 @@ use borrow.Author.Tests.{le-leb, lt-leb}
 use lib.Dec.{leb}
 use Rattle.names.specs.Elementary.{isBits, isName}
 
-not-bits : (n : ℕ) → 256 < n → isBits n ≡ false
-not-bits n h = simp (lt-leb n 256 h, and-false)
-
 module _ (c : ℕ) where
   pub name-below : c < 1000 → (leb 1 c && leb c 4) ≡ isName c
   unfolding isName

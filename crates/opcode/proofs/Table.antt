@@ -1,4 +1,5 @@
--- A decision over an opcode equals its list at all 256 opcodes, by one test that antt computes over them. Assumes nothing.
+-- A decision over an opcode equals its list at all 256 opcodes, by one test that antt computes over them. Assumes
+-- nothing.
 use mathlib.Core.Path.{_≡_, refl, sym, subst}
 use mathlib.Core.Bool.{Bool, true, false, _&&_, Bool·beq}
 use Prim.Native.Nat.{ℕ, zero, suc, _<_, _^_}
@@ -30,7 +31,8 @@ agree-at f g (suc n) t k h = go (ℕ-discrete k n) (λ l. agree-at f g n (both (
     go (yes e) rest = subst (λ (m : ℕ). f m ≡ g m) (sym e) (same (f n) (g n) (both (Bool·beq (f n) (g n)) (agree f g n) t .0))
     go (no e) rest = rest (omega arith)
 
--- The rule at an opcode, from the test over the table of 256. What is to be shown is handed the rule at a variable k in x's place, so that antt finds f,
+-- The rule at an opcode, from the test over the table of 256. What is to be shown is handed the rule at a variable k in
+-- x's place, so that antt finds f,
 -- the code's own decision, in the goal.
 pub by-table : (f g : ℕ → Bool) {P : Type 0} (x : ℕ) → x < 2 ^ 8 → ((k : ℕ) → x ≡ k → f k ≡ g k → P) → T (agree f g 256) → P
 by-table f g x h show t = show x refl (agree-at f g 256 t x h)

@@ -11,12 +11,14 @@ unfoldable pub listed : ℕ → List ℕ → Bool
 listed op [] = false
 listed op (x ∷ xs) = eqb op x || listed op xs
 
--- the opcodes at which `analyze` first looks at the operands' range hints. It clears them, at EQ only where both operands are arguments. REVERT, at which
+-- the opcodes at which `analyze` first looks at the operands' range hints. It clears them, at EQ only where both
+-- operands are arguments. REVERT, at which
 -- it clears all hints while the decoder is active, is apart
 unfoldable pub operandClearers : List ℕ
 operandClearers = DIV ∷ MOD ∷ SUB ∷ EXP ∷ EQ ∷ ISZERO ∷ JUMPI ∷ SLOAD ∷ []
 
--- "Each of SLOAD, SSTORE, TLOAD, TSTORE, KECCAK256, BALANCE, EXTCODESIZE, EXTCODEHASH, EXTCODECOPY, CALL, CALLCODE, DELEGATECALL, STATICCALL,
+-- "Each of SLOAD, SSTORE, TLOAD, TSTORE, KECCAK256, BALANCE, EXTCODESIZE, EXTCODEHASH, EXTCODECOPY, CALL, CALLCODE,
+-- DELEGATECALL, STATICCALL,
 -- CREATE, CREATE2, SELFDESTRUCT and LOG0 to LOG4 ends the decoder phase."
 unfoldable pub decoderEnders : List ℕ
 decoderEnders =

@@ -39,7 +39,8 @@ use crate::SUB;
 use crate::TLOAD;
 use crate::TSTORE;
 
-// Does a step with this opcode clear range hints of its operands? REVERT, which clears all hints of a decoder, is apart.
+// Does a step with this opcode clear range hints of its operands? REVERT, which clears all hints of a decoder, is
+// apart.
 pub fn clears_operands(op: u8) -> bool
     ensures { λ r. ⌜ r ≡ listed op operandClearers ⌝ }
 {

@@ -6,7 +6,8 @@ pub use decide::ends_decoder;
 pub use decide::needs_slot;
 pub use decide::push_size;
 
-// The names and numbers of the Yellow Paper, appendix H.2, and of evmole's op.rs for later ones: those that the code uses so far.
+// The names and numbers of the Yellow Paper, appendix H.2, and of evmole's op.rs for later ones: those that the code
+// uses so far.
 pub const ADD: u8 = 0x01;
 
 pub const MUL: u8 = 0x02;

@@ -1,4 +1,5 @@
-// The numbers of the operations, by what they are handed. A parent and a key: questions, then changes that may add a path.
+// The numbers of the operations, by what they are handed. A parent and a key: questions, then changes that may add a
+// path.
 pub const FIND_CHILD: u32 = 1;
 
 pub const MISSING: u32 = 2;

@@ -1,7 +1,10 @@
-// Replays the traces of standard input, each as the trace printer does, and writes for each its name and the printer's lines.
+// Replays the traces of standard input, each as the trace printer does, and writes for each its name and the printer's
+// lines.
 //
-// A trace is a name (40 bytes), the name's length and the number of the trace's bytes (u32, lowest byte first), and these bytes in runs, as many as it takes: how
-// many zeros, how many other bytes (a byte each), and these. tools/replay.py makes the traces, and the lines from a model of its own.
+// A trace is a name (40 bytes), the name's length and the number of the trace's bytes (u32, lowest byte first), and
+// these bytes in runs, as many as it takes: how
+// many zeros, how many other bytes (a byte each), and these. tools/replay.py makes the traces, and the lines from a
+// model of its own.
 use libc::STDIN_FILENO;
 use libc::STDOUT_FILENO;
 use printing::Runs;

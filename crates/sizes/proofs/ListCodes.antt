@@ -1,4 +1,5 @@
--- A granted list has no more codes than the budget takes: each word of a fact is paid for by the fact's own cost, and a child's type may have one code more than the
+-- A granted list has no more codes than the budget takes: each word of a fact is paid for by the fact's own cost, and a
+-- child's type may have one code more than the
 -- sum at the child and below it, which its word pays. Assumes nothing.
 use Prim.Native.Nat.{ℕ, zero, suc, _+_, _-_, _*_, _≤_, max}
 use mathlib.Core.Path.{_≡_, refl, ap, _∙_}

@@ -1,4 +1,5 @@
--- Each type of a list is well formed: names have question 2's widths, and a tuple is made of two words or more. Assumes nothing.
+-- Each type of a list is well formed: names have question 2's widths, and a tuple is made of two words or more. Assumes
+-- nothing.
 use Prim.Native.Nat.{ℕ, zero, suc, _*_, _≤_}
 use mathlib.Core.Path.{_≡_, refl, ap}
 use mathlib.Core.Bool.{Bool, true, false, cond, not, _&&_}

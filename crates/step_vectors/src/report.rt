@@ -120,7 +120,8 @@ fn put_head(number: u32, head: Head, beyond: usize) {
     put(b"\n");
 }
 
-// The answer, the head and how many numbers beyond the used records aren't zero; then the used records, the slots and the entries.
+// The answer, the head and how many numbers beyond the used records aren't zero; then the used records, the slots and
+// the entries.
 pub fn put_step(number: u32, head: Head, table: &[u32], stack: &[u32], memory: &[u32]) {
     let end = used_end(head.used, table.len());
     put_head(number, head, count_set(&table[end..]));

@@ -1,5 +1,5 @@
 -- What stands ahead of a fact's words, line by line of the code. Assumes nothing.
-use Prim.Native.Nat.{ℕ, suc, _+_, _-_, _*_, _^_, _≤_, _<_, max}
+use Prim.Native.Nat.{ℕ, zero, suc, _+_, _*_, _^_, _≤_, _<_, max}
 use mathlib.Core.Path.{_≡_, refl, sym, ap, _∙_}
 use mathlib.Core.Bool.{Bool, true, false, not, _&&_, _||_}
 use mathlib.Core.List.{List, [], _∷_}
@@ -89,14 +89,15 @@ module _ (kind end last : ℕ) (childless lone e₀ e₁ : Bool) (q₀ : e₀ �
 -- each key has 32 bits, and so has the last
 key-small : (t : List ℕ) (u q : ℕ) → ((i : ℕ) → Fits w32 (getD t i 0)) → nodeOf (nodes t u) q .key < 2 ^ 32
 unfolding nodeOf
-key-small t u q h = go (decLt (q - 1) u)
+key-small t u zero h = omega arith
+key-small t u (suc q) h = go (decLt q u)
   where
-    go : Dec (q - 1 < u) → getD (nodes t u) (q - 1) (bare 0 0) .key < 2 ^ 32
+    go : Dec (q < u) → getD (nodes t u) q (bare 0 0) .key < 2 ^ 32
     go (yes l) =
-        let e = ap (λ (n : Node). n .key) (at (nodes t u) (q - 1) ∙ nodes-get t u (suc (q - 1)) (omega arith) (omega arith)) in
-        let f = key-fits t h (suc (q - 1)) in
+        let e = ap (λ (n : Node). n .key) (at (nodes t u) q ∙ nodes-get t u (suc q) (omega arith) (omega arith)) in
+        let f = key-fits t h (suc q) in
         omega arith
-    go (no l) = let z = length-nodes t u in rw (List·getD-eq-default (nodes t u) (bare 0 0) {n = q - 1} (omega arith)) (omega arith)
+    go (no l) = let z = length-nodes t u in rw (List·getD-eq-default (nodes t u) (bare 0 0) {n = q} (omega arith)) (omega arith)
 
 last-small : (s : List Node) (k : ℕ) (ms : List ℕ) → ((q : ℕ) → nodeOf s q .key < 2 ^ 32) → k < 2 ^ 32 → lastFrom s k ms < 2 ^ 32
 unfolding lastFrom

@@ -1,4 +1,5 @@
--- How the codes of a fact's type are written: one or two codes ahead, and then those of some of its words. (`codes-plan`: these are the codes of the type.) Assumes
+-- How the codes of a fact's type are written: one or two codes ahead, and then those of some of its words.
+-- (`codes-plan`: these are the codes of the type.) Assumes
 -- nothing: these are definitions.
 use Prim.Native.Nat.{ℕ, zero, suc, _+_, _*_}
 use mathlib.Core.Bool.{Bool, cond, _&&_}
@@ -24,7 +25,8 @@ wordCode = code.uint + 256
 abbrev pub tupleCode : ℕ → ℕ
 tupleCode n = cond (leb 2 n) (code.tuple + n) 0
 
--- for a fact that is no array, of a kind, with no child or a lone plain one, an end and a last word, as the last lines of `byKind` in the list's definition
+-- for a fact that is no array, of a kind, with no child or a lone plain one, an end and a last word, as the last lines
+-- of `byKind` in the list's definition
 unfoldable pub openPlan : ℕ → Bool → Bool → ℕ → ℕ → Plan
 openPlan kind childless lone end last =
     cond (eqb kind kindDynamic && eqb end 0 && childless) (plan code.bytes 0 0 0)

@@ -1,4 +1,5 @@
--- Where the walk over a fact's words stands: beside them it goes along the chain of the children once. Assumes nothing: these are definitions.
+-- Where the walk over a fact's words stands: beside them it goes along the chain of the children once. Assumes nothing:
+-- these are definitions.
 use Prim.Native.Nat.{ℕ, _+_, _-_, _*_, _≤_}
 use mathlib.Core.Path.{_≡_}
 use mathlib.Core.List.{List}
@@ -16,7 +17,8 @@ pub record Reached (t : List ℕ) (u p k c : ℕ) : Type 0 where
   pub below : low ≤ k
   pub first : First t u p low c
 
--- i of the words from word start on are written, and the walk stands before the next, with the child c to look at: what is left of the codes to store, from index to
+-- i of the words from word start on are written, and the walk stands before the next, with the child c to look at: what
+-- is left of the codes to store, from index to
 -- on, gives what all of them give from the start, at index at of the list types₀
 pub record Writing (t : List ℕ) (u r start words : ℕ) (types₀ : List ℕ) (at : ℕ) (types : List ℕ) (to c i : ℕ) : Type 0 where
   pub most : i ≤ words

@@ -1,4 +1,5 @@
-// The type walk: `to_alloy_type`, which writes the codes of the list to a slice. It calls itself for each child, and walks a chain once beside the words.
+// The type walk: `to_alloy_type`, which writes the codes of the list to a slice. It calls itself for each child, and
+// walks a chain once beside the words.
 mod ahead;
 mod leaves;
 mod write;

@@ -104,7 +104,8 @@ fn write_type(table: &[u32], n: u32, used: u32, r: u32, types: &mut [u16], at: u
     write_planned(table, n, used, r, types, at)
 }
 
-// The same for any fact: what stands ahead of its words, and then those that follow. It is called from two places, so that the compiler keeps it out of a run's loop.
+// The same for any fact: what stands ahead of its words, and then those that follow. It is called from two places, so
+// that the compiler keeps it out of a run's loop.
 fn write_planned(table: &[u32], n: u32, used: u32, r: u32, types: &mut [u16], at: usize) -> usize
     requires { ⌜ Sound (now table) used n ⌝ }
     requires { ⌜ (1 ≤ r) × (r ≤ used) ⌝ }
@@ -123,9 +124,12 @@ fn write_planned(table: &[u32], n: u32, used: u32, r: u32, types: &mut [u16], at
     write_words(table, n, used, r, from, follow, types, to)
 }
 
-// Stores the codes of so many words of a fact from one on, and answers the index behind them: words before the next child, which have uint256; a run of children
-// that stand at their words, a call for each; then one word of any kind, whose child is looked for; and so on. Where a child's number follows the one before, the
-// walk counts on instead of waiting for the number that it loads. It is higher than the parent's, so that fewer numbers are left above it.
+// Stores the codes of so many words of a fact from one on, and answers the index behind them: words before the next
+// child, which have uint256; a run of children
+// that stand at their words, a call for each; then one word of any kind, whose child is looked for; and so on. Where a
+// child's number follows the one before, the
+// walk counts on instead of waiting for the number that it loads. It is higher than the parent's, so that fewer numbers
+// are left above it.
 pub fn write_words(
     table: &[u32],
     n: u32,

@@ -1,4 +1,5 @@
--- Two lists of types one after the other: their codes, their number, whether they are well formed; and a list taken apart. Assumes nothing.
+-- Two lists of types one after the other: their codes, their number, whether they are well formed; and a list taken
+-- apart. Assumes nothing.
 use mathlib.Core.Path.{_≡_, refl, sym, ap, _∙_}
 use mathlib.Core.Bool.{true, _&&_, and-eq-true-iff, and-assoc}
 use mathlib.Core.List.{_++_, append-assoc as list-assoc}

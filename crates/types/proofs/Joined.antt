@@ -25,6 +25,7 @@ rest (cons u us) (cons t ts) ds h i e =
     let (vs, f, s) = rest us ts ds (tail-formed u us h) (tail-formed t ts i) (a .1) in
     (vs, (λ j. cons (a .0 j) (f j)), s)
 
--- and back: where codes begin with those of some types, the types begin with these, and the rest are the codes of the rest
+-- and back: where codes begin with those of some types, the types begin with these, and the rest are the codes of the
+-- rest
 pub spells-rest : (us ts : AbiTypes) (cs ds : List ℕ) → Spells us cs → Spells ts (cs ++ ds) → (vs : AbiTypes) × (ts ≡ append us vs) × Spells vs ds
 spells-rest us ts cs ds s r = rest us ts ds (s .formed) (r .formed) (r .spelt ∙ ap (λ (l : List ℕ). l ++ ds) (sym (s .spelt)))

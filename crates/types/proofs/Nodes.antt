@@ -1,4 +1,5 @@
--- The step of a reader that goes through the codes from the left and counts how many types are still wanted. Assumes nothing.
+-- The step of a reader that goes through the codes from the left and counts how many types are still wanted. Assumes
+-- nothing.
 use mathlib.Core.Path.{_≡_, refl, sym, ap, _∙_}
 use mathlib.Core.Bool.{true}
 use mathlib.Core.List.{List, [], _∷_, head-eq-of-cons-eq, tail-eq-of-cons-eq, nil≢cons}
@@ -21,7 +22,8 @@ pub record Wanted (n : ℕ) (cs : List ℕ) : Type 0 where
   pub spells : Spells types cs
   pub enough : n ≤ count types
 
--- ts have the codes c ∷ cs, and us those left when c is read, a code that k types follow: ts with the parts of the first type in its place
+-- ts have the codes c ∷ cs, and us those left when c is read, a code that k types follow: ts with the parts of the
+-- first type in its place
 pub record Step (c k : ℕ) (cs : List ℕ) (ts us : AbiTypes) : Type 0 where
   pub first : AbiType
   pub rest : AbiTypes

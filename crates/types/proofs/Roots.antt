@@ -26,7 +26,8 @@ pub codes-cons : (t : AbiType) (ts : AbiTypes) → allCodes (cons t ts) ≡ root
 unfolding codes
 codes-cons t ts = ap (λ (l : List ℕ). l ++ allCodes ts) (codes-root t)
 
--- An induction: what holds of no types, of one type more, and of a type if it holds of its parts, holds of every type and of every list.
+-- An induction: what holds of no types, of one type more, and of a type if it holds of its parts, holds of every type
+-- and of every list.
 module _ (P : AbiType → Type 0) (Q : AbiTypes → Type 0) (none : Q nil) (more : (t : AbiType) (ts : AbiTypes) → P t → Q ts → Q (cons t ts)) (whole : (t : AbiType) → Q (parts t) → P t) where
   mutual
     unfolding parts

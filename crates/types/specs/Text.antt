@@ -1,4 +1,5 @@
--- The canonical text of a type: "tuples as (a,b), arrays as T[]; a list's entries are joined by commas without blanks". Assumes nothing.
+-- The canonical text of a type: "tuples as (a,b), arrays as T[]; a list's entries are joined by commas without blanks".
+-- Assumes nothing.
 use Prim.Native.Nat.{ℕ}
 use mathlib.Core.List.{List, [], _∷_, _++_}
 use Rattle.names.specs.Text.{nameText}

@@ -1,4 +1,5 @@
-// What the programs that run vectors share: a vector is 192 bytes, its name stands in the first 40, and an answer is written behind it.
+// What the programs that run vectors share: a vector is 192 bytes, its name stands in the first 40, and an answer is
+// written behind it.
 ghost use Prim.Native.Nat.{_≤_, _<_};
 use libc::STDOUT_FILENO;
 

@@ -1,5 +1,7 @@
--- Laws of a number in limbs of 64 bits, highest first: which words are the same, sums with a carry, complements, AND, and counts of ones.
--- They go limb by limb, with the limbs above as one number, since `omega` takes no numeral of more than 38 digits. Assumes nothing.
+-- Laws of a number in limbs of 64 bits, highest first: which words are the same, sums with a carry, complements, AND,
+-- and counts of ones.
+-- They go limb by limb, with the limbs above as one number, since `omega` takes no numeral of more than 38 digits.
+-- Assumes nothing.
 use mathlib.Core.Path.{_≡_, sym, ap, _∙_}
 use Prim.Native.Nat.{ℕ, _+_, _-_, _*_, _%_, _^_, _≤_, _<_}
 use native.Mathlib.Nat.{add-mul, mul-assoc, one-mul, add-zero, zero-mul, zero-add}
@@ -23,17 +25,6 @@ value-low l3 l2 l1 l0 e3 e2 e1 = simp (e3, e2, e1, zero-mul, zero-add)
 -- each limb of x is below 2^64
 abbrev pub LimbsFit : U256 → Type 0
 LimbsFit x = (x .l3 < 2 ^ 64) × (x .l2 < 2 ^ 64) × (x .l1 < 2 ^ 64) × (x .l0 < 2 ^ 64)
-
--- two words whose limbs fit are the same if they stand for the same number
-pub value-same : (x y : U256) → LimbsFit x → LimbsFit y → valueOf x ≡ valueOf y → x ≡ y
-value-same x y hx hy e =
-    let t₀ = lowest _ _ (x .l0) (y .l0) (hx .3) (hy .3) e in
-    let t₁ = lowest _ _ (x .l1) (y .l1) (hx .2) (hy .2) (t₀ .0) in
-    let t₂ = lowest _ _ (x .l2) (y .l2) (hx .1) (hy .1) (t₁ .0) in
-    λ i. record { l3 = t₂ .0 i; l2 = t₂ .1 i; l1 = t₁ .1 i; l0 = t₀ .1 i }
-  where
-    lowest : (X Y x y : ℕ) → x < 2 ^ 64 → y < 2 ^ 64 → X * 2 ^ 64 + x ≡ Y * 2 ^ 64 + y → (X ≡ Y) × (x ≡ y)
-    lowest X Y x y hx hy e = omega arith
 
 -- one more limb below a sum: W is X + Y with the carry k in and K out, and v is x + y with the carry j in and k out
 carry-step : (P Q X Y W K x y v k j : ℕ) → W + K * Q ≡ X + Y + k → v + k * P ≡ x + y + j → (W * P + v) + K * (Q * P) ≡ (X * P + x) + (Y * P + y) + j

@@ -4,7 +4,8 @@ ghost use Prim.Native.Nat.{_+_, _≤_};
 ghost use lib.ListN.{length};
 ghost use Rattle.zeros.specs.Zeros.{zeros};
 
-// Are n numbers of s from `at` on all zero? No branch in the loop, so that the compiler takes several numbers at a time.
+// Are n numbers of s from `at` on all zero? No branch in the loop, so that the compiler takes several numbers at a
+// time.
 pub fn are_zero(s: &[u32], at: usize, n: usize) -> bool
     requires { ⌜ at + n ≤ length (now s) ⌝ }
     ensures { λ r. ⌜ r ≡ zeros (now (s .entry)) at n ⌝ }

@@ -1,4 +1,5 @@
--- `spell::name_length` meets its contract, name by name; behind the first four each name is a word with a width. Assumes nothing.
+-- `spell::name_length` meets its contract, name by name; behind the first four each name is a word with a width.
+-- Assumes nothing.
 use borrow.Author.Needs.{needs}
 use Rattle.spell.proofs.Spellings.{name-wide, bool-long, address-long, bytes-long, string-long, uint-long, int-long, fixed-long}
 use Rattle.spell.proofs.name_length.Statement.{statement}

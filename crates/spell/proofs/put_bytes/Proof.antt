@@ -1,4 +1,5 @@
--- `spell::put_bytes` meets its contract. The invariant: to store what is left of s, from where the loop stands, gives what storing all of it gave.
+-- `spell::put_bytes` meets its contract. The invariant: to store what is left of s, from where the loop stands, gives
+-- what storing all of it gave.
 -- The measure is what is left. Assumes nothing.
 use mathlib.Core.Path.{_≡_}
 use Prim.Native.Nat.{_+_, _-_, _≤_}

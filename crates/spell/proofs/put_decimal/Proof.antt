@@ -1,4 +1,5 @@
--- `spell::put_decimal` meets its contract: room for one digit, two or three, and then the digits stored. Assumes nothing.
+-- `spell::put_decimal` meets its contract: room for one digit, two or three, and then the digits stored. Assumes
+-- nothing.
 use lib.ListN.{length-set}
 use borrow.Author.Needs.{needs}
 use Rattle.spell.proofs.Decimals.{as-far, one-long, two-long, three-long, one-stored, two-stored, three-stored, first-fits, second-fits, third-fits}

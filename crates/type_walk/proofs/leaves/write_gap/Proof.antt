@@ -1,4 +1,5 @@
--- `type_walk::leaves::write_gap` meets its contract: `Writing` holds before each word, and the child to look at stays. Assumes nothing.
+-- `type_walk::leaves::write_gap` meets its contract: `Writing` holds before each word, and the child to look at stays.
+-- Assumes nothing.
 use Prim.Native.Nat.{ℕ, _-_}
 use mathlib.Core.Path.{_≡_, refl, _∙_}
 use mathlib.Core.Logic.{⊎-elim}

@@ -1,5 +1,7 @@
--- `type_walk::write::write_type`, `write_planned` and `write_words` meet their contracts: `Writing` holds before each word, and a run of children goes on with it. The
--- numbers above the record fall, three times a number: from a fact to its plan, from the plan to its words, and from a word to its child. Assumes nothing.
+-- `type_walk::write::write_type`, `write_planned` and `write_words` meet their contracts: `Writing` holds before each
+-- word, and a run of children goes on with it. The
+-- numbers above the record fall, three times a number: from a fact to its plan, from the plan to its words, and from a
+-- word to its child. Assumes nothing.
 use Prim.Native.Nat.{ℕ, _+_, _-_, _*_, _≤_, _<_}
 use mathlib.Core.Path.{_≡_, refl, sym, _∙_}
 use mathlib.Core.Logic.{⊎-elim}

@@ -1,4 +1,5 @@
--- `type_walk::write::find_word` meets its contract: the walk's invariant is `Reached`, the measure what is left of the keys. Assumes nothing.
+-- `type_walk::write::find_word` meets its contract: the walk's invariant is `Reached`, the measure what is left of the
+-- keys. Assumes nothing.
 use mathlib.Core.Path.{refl, sym, _∙_}
 use native.Mathlib.Omega.{arith}
 use borrow.Author.Needs.{needs}

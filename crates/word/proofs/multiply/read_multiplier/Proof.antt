@@ -1,4 +1,5 @@
--- `word::multiply::read_multiplier` meets its contract: each return's reading says the truth of the multiplier. Assumes nothing.
+-- `word::multiply::read_multiplier` meets its contract: each return's reading says the truth of the multiplier. Assumes
+-- nothing.
 use borrow.Author.Needs.{needs}
 use Rattle.word.proofs.Multipliers.{lost-multiplier, kept-multiplier, counted, not-multiple, too-small, too-large}
 use Rattle.word.proofs.multiply.read_multiplier.Statement.{statement}
