@@ -55,7 +55,7 @@ multiplied s path other Other = markLength path other Nothing
 unfoldable pub multiply : List Node → ℕ → Label → ℕ → Plan
 multiply s path other factor = cond (eqb path 1) (markLength path other Nothing) (multiplied s path other (multiplierOf factor))
 
--- the general arm of LT, GT and MUL takes the first labelled operand only and leaves it alone under a range name
+-- the general arm of LT, GT and MUL takes the first operand that is an argument and leaves it under a range name
 -- (decision D12)
 unfoldable pub unlessRange : List Node → Val → Plan
 unlessRange s v = cond (hasRangeHint s (v .path) (v .offset)) nothing (one (mark v))

@@ -44,7 +44,8 @@ toStack x = eqb (x .op) CALLDATALOAD
 abbrev pub follow : Val → ℕ → Operation
 follow v offset = SetDynamic (v .path) (v .offset) (offset / wordBytes)
 
--- what is copied whole to an entry is bytes; the dynamic mark is set with pick 0 too, bytes and the label need a pick
+-- what is copied to the entry that was picked is bytes; the dynamic mark is set with pick 0 too, bytes and the label
+-- need a pick
 -- (decision D7)
 abbrev pub nameCopied : ℕ → Val → Operation
 nameCopied pick v = cond (eqb pick 0) Nothing (nameAs v code.bytes byBytes)

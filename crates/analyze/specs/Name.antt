@@ -1,5 +1,5 @@
--- The arms that name an argument, in the Rust's order; at most the label of the top changes too. Assumes nothing: these
--- are definitions.
+-- The arms that name an argument or label the top alone, in the Rust's order. Operands are those of the Rust's
+-- `StepResult::args` (labels/specs/Step.antt). Assumes nothing: these are definitions.
 use Prim.Native.Nat.{ℕ, _+_, _*_, _%_}
 use mathlib.Core.Bool.{Bool, true, cond, not, _&&_}
 use mathlib.Core.List.{List}
@@ -52,7 +52,7 @@ shr active bytes x =
     (λ v. cond (active && isPlace (guardFailurePc bytes (x .pc) true)) (nameIf v (widthName (valueOf (x .first .word))) byTheRest) nothing)
     nothing
 
--- SDIV and SMOD touch the first labelled operand only (decision D14); int256
+-- SDIV and SMOD touch the first operand that is an argument, and no other (decision D14); int256
 abbrev pub signedFirst : Choice → Plan
 signedFirst Neither = nothing
 signedFirst (Chosen v own other) = markAndName v (code.int + 256) bySdivOrSmod

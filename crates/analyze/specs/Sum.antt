@@ -44,7 +44,8 @@ addBoth s f g = withStack (two (mark f) (mark g)) (keptLabel (winner s f g) (kep
 unfoldable pub isLessOne : Val → U256 → U256 → Bool
 isLessOne v own other = isLength v && not (eqb (v .path) 1) && eqb (valueOf own) 0 && eqb (valueOf other) (2 ^ 256 - 1)
 
--- the top's word is 0 then, beside the label of a sum that was kept
+-- the top's word is 0 then, beside the label of a sum that was kept; as 2^256 - 1 is not kept, the second case never
+-- comes up
 abbrev pub zeroBeside : Val → Kept → OnStack
 zeroBeside v TooLarge = stack.Word 0
 zeroBeside v (Number sum) = stack.WordLabel 0 (withAdded v sum)

@@ -69,7 +69,7 @@ fn new_offset(table: &[u32], n: u32, used: u32, val: Val) -> u32
     behind - off
 }
 
-// What is copied whole to an entry is bytes.
+// What is copied to the entry that was picked is bytes.
 fn name_copied(pick: u32, val: Val) -> Operation
     ensures { λ r. ⌜ r ≡ nameCopied pick val ⌝ }
 {

@@ -121,7 +121,7 @@ pub fn shr(active: bool, code: &[u8], step: Step) -> Plan
     name_if(val, width_name(first.word), BY_THE_REST)
 }
 
-// SDIV and SMOD: the first labelled operand is signed.
+// SDIV and SMOD: the first operand that is an argument is signed.
 pub fn signed(step: Step) -> Plan
     ensures { λ r. ⌜ r ≡ signed step ⌝ }
 {

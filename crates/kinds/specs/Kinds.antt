@@ -25,9 +25,8 @@ dynamicAt s r count =
 abbrev pub arrayAt : List Node → ℕ → ℕ → List Node
 arrayAt s r count = cond (eqb (nodeOf s r .kind) kindArray && ltb count (nodeOf s r .count)) s (giveKind s r kindArray count)
 
--- `set_info` with Dynamic(count): the path r is made seen first; the root has no kind. r is a record that is there: the
--- Rust makes the path, and here the step
--- makes it first
+-- `set_info` with Dynamic(count): the path r is made seen first; the root has no kind. r is a record that is there; an
+-- operation whose path may not be there makes it first (decision D23)
 unfoldable pub setDynamic : List Node → ℕ → ℕ → List Node
 setDynamic s r count = cond (eqb r 1) s (dynamicAt (makeSeen s r) r count)
 

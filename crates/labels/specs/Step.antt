@@ -1,5 +1,7 @@
--- Operands and steps: "Step (59): op, pc after the step, two operands as slots, pick, load flag, load label." Assumes
--- nothing: these are definitions.
+-- Operands and steps: "Step (59): op, pc after the step, two operands as slots, pick, load flag, load label." The two
+-- operands are the first two of the Rust's `StepResult::args`, whose order is not always the stack's: CALL's first is
+-- the
+-- address, CALLDATACOPY's the source, MSTORE8's the place. Assumes nothing: these are definitions.
 use Prim.Native.Nat.{ℕ, _+_}
 use mathlib.Core.List.{List, [], _∷_, _++_}
 use lib.ListN.{getD}

@@ -1,4 +1,5 @@
--- What each operation does to the facts: the Rust's own, of `ArgsResult`. Assumes nothing: these are definitions.
+-- What each operation does to the facts: the Rust's own, of `ArgsResult` and, for all hints, of `Info`; `InsertNotBool`
+-- is `analyze`'s own insertion, the last two are `set_info`. Assumes nothing: these are definitions.
 use Prim.Native.Nat.{ℕ}
 use mathlib.Core.List.{List, [], _∷_}
 use Rattle.facts.specs.State.{Node}

@@ -68,7 +68,8 @@ pub record Passed (n : ℕ) (l : Lent) (bytes x : List ℕ) : Type 0 where
   pub fields : fieldsFit (l .memory) x ≡ true
   pub slot : slotThere (l .stack) (getD x stepOp 0) ≡ true
 
--- one that has passed 8 too, and its plan
+-- one that has passed 8 too, and its plan, made of the facts before the hints are cleared: these change no plan
+-- (`hinted-plan`)
 pub record Accepts (n : ℕ) (l : Lent) (bytes x : List ℕ) (p : Planned) : Type 0 where
   pub passed : Passed n l bytes x
   pub room : roomThere (recordsIn (l .held)) (machineOf l) (isActive l) bytes x ≡ true
