@@ -1,4 +1,4 @@
--- The names that a step gives are names: question 2's codes and widths. Assumes nothing.
+-- The names that a step gives are names: question 2's codes and widths.
 use Prim.Native.Nat.{ℕ, _+_, _*_, _/_, _%_, _≤_, _<_}
 use mathlib.Core.Path.{_≡_, refl, ap, _∙_}
 use mathlib.Core.Bool.{Bool, true, false, cond, _&&_, and-eq-true-iff}

@@ -1,5 +1,5 @@
 -- Hints cleared change no plan: at the opcodes that clear hints no arm reads the facts, and at all others the facts
--- stay. Assumes nothing.
+-- stay.
 use Prim.Native.Nat.{ℕ}
 use mathlib.Core.Path.{_≡_, refl, sym, ap, subst}
 use mathlib.Core.Bool.{Bool, true, false, cond, not, _&&_, _||_, false≢true}

@@ -1,4 +1,4 @@
--- The plans of MUL, SHL, LT and GT are proper. Assumes nothing.
+-- The plans of MUL, SHL, LT and GT are proper.
 use Prim.Native.Nat.{ℕ, _+_, _*_, _≤_, _<_}
 use mathlib.Core.Path.{_≡_, refl}
 use mathlib.Core.Bool.{Bool, true, _&&_}
@@ -26,14 +26,15 @@ use Rattle.labels.specs.declared.Label.{Label}
 use Rattle.labels.specs.declared.Step.{Step}
 use Rattle.labels.specs.declared.Choice.{Choice}
 use Rattle.labels.specs.declared.Choice.the-variants.{Chosen, Neither}
-use Rattle.labels.specs.Operands.{isAny, isLength, isPlainLength, choose}
+use Rattle.labels.specs.declared.Pattern.the-variants as pattern
+use Rattle.labels.specs.Operands.{isLength, isUnmaskedLength, choose}
 use Rattle.operations.specs.declared.Operation.{Operation}
 use Rattle.operations.specs.declared.Operation.the-variants.{Nothing, MarkNotBool, SetArray}
 use Rattle.operations.specs.Asks.{IsUsed}
 use Rattle.analyze.specs.declared.OnStack.the-variants as stack
 use Rattle.analyze.specs.declared.InMemory.the-variants as memory
 use Rattle.analyze.specs.declared.Plan.{Plan}
-use Rattle.analyze.specs.Plan.{one, mark, withStack}
+use Rattle.analyze.specs.Plan.{oneOperation, mark, withStack}
 use Rattle.analyze.specs.Length.{markLength, namePath, multiplied, multiply, unlessRange, markFirst, mulBy, mul}
 use Rattle.analyze.specs.Length.{bytesShift, bytesNamed, shlOf, shl, compareWith, compare}
 use Rattle.analyze.specs.Ready.{LabelReaches, ChoiceReaches, StepReaches}
@@ -116,8 +117,8 @@ module _ (s : List Node) (O : Ordered s) (Fits Slot : Type 0) (pick : ℕ) where
   proper-compare-with l bound general L G slot =
       arg-has P (length s) l _ _ L
       (λ v U.
-      cond-has P (isPlainLength v) _ _
-      (proper-stack (one (MarkNotBool (v .path) 0)) _ slot (proper-one _ (record { reaches = U; stores = λ f. tt })))
+      cond-has P (isUnmaskedLength v) _ _
+      (proper-stack (oneOperation (MarkNotBool (v .path) 0)) _ slot (proper-one _ (record { reaches = U; stores = λ f. tt })))
       (proper-mark-first general G))
       (proper-mark-first general G)
 
@@ -125,8 +126,8 @@ module _ (s : List Node) (O : Ordered s) (Fits Slot : Type 0) (pick : ℕ) where
     pub proper-mul : P (mul s x)
     unfolding mul
     proper-mul =
-        proper-mul-by (choose isLength (x .first) (x .second)) (choose isAny (x .first) (x .second))
-        (step-choice (length s) x isLength R) (step-choice (length s) x isAny R) slot
+        proper-mul-by (choose pattern.Length (x .first) (x .second)) (choose pattern.Any (x .first) (x .second))
+        (step-choice (length s) x pattern.Length R) (step-choice (length s) x pattern.Any R) slot
 
     pub proper-shl : (active : Bool) (bytes : List ℕ) → P (shl s active bytes x)
     unfolding shl shlOf
@@ -143,8 +144,8 @@ module _ (s : List Node) (O : Ordered s) (Fits Slot : Type 0) (pick : ℕ) where
     pub proper-compare : P (compare s x)
     unfolding compare
     proper-compare =
-        let general = choose isAny (x .first) (x .second) in
-        let G = step-choice (length s) x isAny R in
+        let general = choose pattern.Any (x .first) (x .second) in
+        let G = step-choice (length s) x pattern.Any R in
         cond-has P (eqb (x .op) LT) _ _
         (proper-compare-with (x .second .label) (valueOf (x .first .word)) general (R .second) G slot)
         (proper-compare-with (x .first .label) (valueOf (x .second .word)) general (R .first) G slot)

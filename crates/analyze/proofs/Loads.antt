@@ -1,4 +1,4 @@
--- The plans of CALLDATALOAD, CALLDATACOPY and ADD are proper. Assumes nothing.
+-- The plans of CALLDATALOAD, CALLDATACOPY and ADD are proper.
 use Prim.Native.Nat.{ℕ, _-_, _/_, _≤_, _<_, _^_}
 use mathlib.Core.Path.{_≡_, refl}
 use mathlib.Core.Bool.{true}
@@ -17,12 +17,13 @@ use Rattle.labels.specs.declared.Label.the-variants.{Unlabelled, CallData, Arg,
 use Rattle.labels.specs.declared.Step.{Step}
 use Rattle.labels.specs.declared.Choice.{Choice}
 use Rattle.labels.specs.declared.Choice.the-variants.{Chosen, Neither}
-use Rattle.labels.specs.Operands.{onArg, isAny, choose}
+use Rattle.labels.specs.declared.Pattern.the-variants as pattern
+use Rattle.labels.specs.Operands.{onArg, choose}
 use Rattle.operations.specs.declared.Operation.{Operation}
 use Rattle.operations.specs.declared.Operation.the-variants.{Nothing, GetOrCreate}
 use Rattle.operations.specs.Asks.{IsUsed}
 use Rattle.analyze.specs.declared.Plan.{Plan}
-use Rattle.analyze.specs.Plan.{one, two, mark, nameAs}
+use Rattle.analyze.specs.Plan.{oneOperation, twoOperations, mark, nameAs}
 use Rattle.analyze.specs.Load.{isWholeWord, arraysOff, newOffset, toStack, follow, nameCopied, followed}
 use Rattle.analyze.specs.Load.{labelledLoad, isFollowed, unlabelledLoad, load}
 use Rattle.analyze.specs.Sum.{addBoth, addOne, add}
@@ -51,9 +52,9 @@ module _ (u : ℕ) (some : 1 ≤ u) (Fits Slot : Type 0) (x : Step) where
         → P (followed x v (newOffset s v))
     proper-followed s v U h =
         cond-given P (toStack x) _ _
-        (λ e. proper-stack (one (follow v (newOffset s v))) _ (slot e) (proper-one _ followed-may))
+        (λ e. proper-stack (oneOperation (follow v (newOffset s v))) _ (slot e) (proper-one _ followed-may))
         (λ e.
-        proper-memory (two (follow v (newOffset s v)) (nameCopied (x .pick) v)) _ refl
+        proper-memory (twoOperations (follow v (newOffset s v)) (nameCopied (x .pick) v)) _ refl
         (proper-three _ _ Nothing followed-may
         (cond-has (λ o. Allowed u Fits o) (eqb (x .pick) 0) Nothing (nameAs v code.bytes byBytes) may-none
         (may-name v code.bytes byBytes U dynamic-bytes-name (omega arith) (omega arith)))
@@ -67,8 +68,8 @@ module _ (u : ℕ) (some : 1 ≤ u) (Fits Slot : Type 0) (x : Step) where
     proper-unlabelled offset =
         cond-has P (isFollowed offset) _ _
         (cond-given P (toStack x) _ _
-        (λ e. proper-stack (one created) _ (slot e) (proper-one created may-create))
-        (λ e. proper-memory (one created) _ refl (proper-one created may-create)))
+        (λ e. proper-stack (oneOperation created) _ (slot e) (proper-one created may-create))
+        (λ e. proper-memory (oneOperation created) _ refl (proper-one created may-create)))
         proper-none
       where
         created : Operation
@@ -94,12 +95,12 @@ module _ (u : ℕ) (some : 1 ≤ u) (Fits Slot : Type 0) (x : Step) where
   -- ADD
   proper-add-one : (k : Choice) → ChoiceReaches u k → Slot → P (addOne k)
   proper-add-one Neither K slot = proper-none
-  proper-add-one (Chosen v own other) K slot = proper-stack (one (mark v)) _ slot (proper-mark v (K .0))
+  proper-add-one (Chosen v own other) K slot = proper-stack (oneOperation (mark v)) _ slot (proper-mark v (K .0))
 
   proper-add-both : (s : List Node) (f g : Val) → IsUsed u (f .path) → IsUsed u (g .path) → Slot → P (addBoth s f g)
   unfolding addBoth
   proper-add-both s f g F G slot =
-      proper-stack (two (mark f) (mark g)) _ slot
+      proper-stack (twoOperations (mark f) (mark g)) _ slot
       (proper-three (mark f) (mark g) Nothing (may-mark f F) (may-mark g G) may-none)
 
   pub proper-add : (s : List Node) → StepReaches u x → Slot → P (add s x)
@@ -108,5 +109,5 @@ module _ (u : ℕ) (some : 1 ≤ u) (Fits Slot : Type 0) (x : Step) where
       arg-has P u (x .first .label) _ _ (R .first)
       (λ f F. arg-has P u (x .second .label) _ _ (R .second) (λ g G. proper-add-both s f g F G slot) lone) lone
     where
-      lone : P (addOne (choose isAny (x .first) (x .second)))
-      lone = proper-add-one (choose isAny (x .first) (x .second)) (step-choice u x isAny R) slot
+      lone : P (addOne (choose pattern.Any (x .first) (x .second)))
+      lone = proper-add-one (choose pattern.Any (x .first) (x .second)) (step-choice u x pattern.Any R) slot

@@ -1,4 +1,4 @@
--- The plans of the arms that name an argument are proper. Assumes nothing.
+-- The plans of the arms that name an argument are proper.
 use Prim.Native.Nat.{ℕ, _+_, _*_}
 use mathlib.Core.Path.{refl}
 use mathlib.Core.Bool.{Bool, true, _&&_}
@@ -20,11 +20,12 @@ use Rattle.labels.specs.declared.Label.the-variants.{Unlabelled, CallData, Arg,
 use Rattle.labels.specs.declared.Step.{Step}
 use Rattle.labels.specs.declared.Choice.{Choice}
 use Rattle.labels.specs.declared.Choice.the-variants.{Chosen, Neither}
-use Rattle.labels.specs.Operands.{isAny, isPlain, choose, sameArg}
+use Rattle.labels.specs.declared.Pattern.the-variants as pattern
+use Rattle.labels.specs.Operands.{choose, isUnmasked, sameArg}
 use Rattle.operations.specs.Asks.{IsUsed}
 use Rattle.analyze.specs.declared.OnStack.the-variants as stack
 use Rattle.analyze.specs.declared.Plan.{Plan}
-use Rattle.analyze.specs.Plan.{nothing, one, mark, nameAs, markAndName, withStack}
+use Rattle.analyze.specs.Plan.{nothing, oneOperation, mark, nameAs, markAndName, withStack}
 use Rattle.analyze.specs.Length.{isPlace}
 use Rattle.analyze.specs.Name.{call, mstore8, widthName, nameIf, shr, signedFirst, signed, withMask, andFirst}
 use Rattle.analyze.specs.Name.{and, eqMasked, eqBoth, eq, zeroTested, isZero, signExtend, byte, mload}
@@ -42,7 +43,7 @@ module _ (u : ℕ) (Fits Slot : Type 0) (pick : ℕ) where
   -- a name, if it is one
   proper-name-if : (v : Val) (name : ℕ) → IsUsed u (v .path) → NoneOrName name → P (nameIf v name byTheRest)
   proper-name-if v name R given =
-      unless-none name nothing (one (nameAs v name byTheRest)) given proper-none
+      unless-none name nothing (oneOperation (nameAs v name byTheRest)) given proper-none
       (proper-name v name byTheRest R (omega arith) (omega arith))
 
   proper-eq-masked : (v w : Val) (mask : Mask) → IsUsed u (v .path) → P (eqMasked v w mask)
@@ -54,14 +55,14 @@ module _ (u : ℕ) (Fits Slot : Type 0) (pick : ℕ) where
   proper-eq-both : (v w : Val) → IsUsed u (v .path) → IsUsed u (w .path) → P (eqBoth v w)
   unfolding eqBoth
   proper-eq-both v w U W =
-      cond-has P (isPlain v) _ _ (proper-eq-masked v w (w .«and_mask») U)
-      (cond-has P (isPlain w) _ _ (proper-eq-masked w v (v .«and_mask») W) proper-none)
+      cond-has P (isUnmasked (v .«and_mask»)) _ _ (proper-eq-masked v w (w .«and_mask») U)
+      (cond-has P (isUnmasked (w .«and_mask»)) _ _ (proper-eq-masked w v (v .«and_mask») W) proper-none)
 
   proper-and-first : (k : Choice) → ChoiceReaches u k → Slot → P (andFirst k)
   proper-and-first Neither K slot = proper-none
   proper-and-first (Chosen v own other) K slot =
       let name = andMaskToType (valueOf (other .word)) in
-      unless-none name (one (mark v)) (withStack (markAndName v name byAndOrIsZero) (stack.Label (withMask v (other .word))))
+      unless-none name (oneOperation (mark v)) (withStack (markAndName v name byAndOrIsZero) (stack.Label (withMask v (other .word))))
       (mask-name (valueOf (other .word))) (proper-mark v (K .0))
       (λ h.
       proper-stack (markAndName v name byAndOrIsZero) _ slot
@@ -108,11 +109,11 @@ module _ (u : ℕ) (Fits Slot : Type 0) (pick : ℕ) where
 
     pub proper-signed : P (signed x)
     unfolding signed
-    proper-signed = proper-signed-first (choose isAny (x .first) (x .second)) (step-choice u x isAny R)
+    proper-signed = proper-signed-first (choose pattern.Any (x .first) (x .second)) (step-choice u x pattern.Any R)
 
     pub proper-and : Slot → P (and x)
     unfolding and
-    proper-and = proper-and-first (choose isPlain (x .first) (x .second)) (step-choice u x isPlain R)
+    proper-and = proper-and-first (choose pattern.NoMask (x .first) (x .second)) (step-choice u x pattern.NoMask R)
 
     pub proper-eq : P (eq x)
     unfolding eq

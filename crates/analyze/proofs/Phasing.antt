@@ -1,4 +1,4 @@
--- The phases before the arms: the hints' operations are allowed, and the range rule's plan is proper. Assumes nothing.
+-- The phases before the arms: the hints' operations are allowed, and the range rule's plan is proper.
 use Prim.Native.Nat.{ℕ, _+_, _≤_}
 use mathlib.Core.Path.{refl}
 use mathlib.Core.Bool.{Bool, not, _&&_, _||_}
@@ -21,7 +21,9 @@ use Rattle.operations.proofs.Clears.{Clears}
 use Rattle.analyze.specs.declared.Comparison.{Comparison}
 use Rattle.analyze.specs.declared.Comparison.the-variants as comparison
 use Rattle.analyze.specs.declared.Hints.{Hints}
-use Rattle.analyze.specs.Phases.{clear, comparesWords, clearOperands, hintsOf, comparisonOf, rangedBy, rangePlan}
+use Rattle.analyze.specs.Phases.{clear, comparesWords, clearOperands, hintsOf, comparisonOf, onComparison}
+use Rattle.analyze.specs.Phases.{nameRange, rangePlan}
+use Rattle.analyze.specs.Plan.{nothing}
 use Rattle.analyze.specs.Ready.{LabelReaches, StepReaches, HintsReach}
 use Rattle.analyze.proofs.Given.{uint-name}
 use Rattle.analyze.proofs.Proper.{Proper, cond-has, arg-has, may-none, may-name, proper-three, proper-none}
@@ -94,7 +96,7 @@ module _ (u : ℕ) where
       (arg-has ComparisonReaches u (x .second .label) _ comparison.Nothing (R .second) (λ v U. U) tt) tt)
 
   module _ (Fits Slot : Type 0) (pick : ℕ) where
-    proper-ranged : (k : Comparison) → ComparisonReaches k → Proper u Fits Slot pick (rangedBy k)
+    proper-ranged : (k : Comparison) → ComparisonReaches k → Proper u Fits Slot pick (onComparison k nameRange nothing)
     proper-ranged comparison.Nothing K = proper-none
     proper-ranged (comparison.Of v bound less) K =
         proper-three _ _ Nothing

@@ -1,4 +1,4 @@
--- The plan of a step is proper, whatever its opcode. Assumes nothing.
+-- The plan of a step is proper, whatever its opcode.
 use Prim.Native.Nat.{ℕ}
 use mathlib.Core.Path.{_≡_, refl, ap, _∙_}
 use mathlib.Core.Bool.{Bool, true, false, _||_}

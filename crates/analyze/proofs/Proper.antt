@@ -1,6 +1,5 @@
--- What is so of every plan of a step: each operation names used records and stores what question 2 asks for, the
--- stack is written only where there is a slot, and the memory at the step's pick. How plans that are so go together.
--- Assumes nothing.
+-- What is so of every plan of a step: each operation names used records and stores what question 2 asks for, the stack
+-- is written only where there is a slot, and the memory at the step's pick. How plans that are so go together.
 use Prim.Native.Nat.{ℕ, _≤_, _<_, _^_}
 use mathlib.Core.Path.{_≡_, refl}
 use mathlib.Core.Bool.{Bool, true, false, cond}
@@ -23,7 +22,8 @@ use Rattle.analyze.specs.declared.OnStack.the-variants as stack
 use Rattle.analyze.specs.declared.InMemory.{InMemory}
 use Rattle.analyze.specs.declared.InMemory.the-variants as memory
 use Rattle.analyze.specs.declared.Plan.{Plan}
-use Rattle.analyze.specs.Plan.{nothing, one, three, withStack, withMemory, mark, nameAs, markAndName}
+use Rattle.analyze.specs.Plan.{nothing, oneOperation, threeOperations, withStack, withMemory, mark, nameAs}
+use Rattle.analyze.specs.Plan.{markAndName}
 use Rattle.analyze.specs.Ready.{LabelReaches}
 use Rattle.analyze.proofs.Given.{NoneOrName}
 
@@ -89,10 +89,10 @@ module _ {u : ℕ} {Fits : Type 0} where
 
 module _ {u : ℕ} {Fits Slot : Type 0} {pick : ℕ} where
   pub proper-three : (a b c : Operation) → Allowed u Fits a → Allowed u Fits b → Allowed u Fits c
-      → Proper u Fits Slot pick (three a b c)
+      → Proper u Fits Slot pick (threeOperations a b c)
   proper-three a b c A B C = record { first = A; second = B; third = C; stack = inl refl; memory = tt }
 
-  pub proper-one : (a : Operation) → Allowed u Fits a → Proper u Fits Slot pick (one a)
+  pub proper-one : (a : Operation) → Allowed u Fits a → Proper u Fits Slot pick (oneOperation a)
   proper-one a A = proper-three a Nothing Nothing A may-none may-none
 
   pub proper-none : Proper u Fits Slot pick nothing
@@ -109,12 +109,12 @@ module _ {u : ℕ} {Fits Slot : Type 0} {pick : ℕ} where
       record { first = P .first; second = P .second; third = P .third; stack = P .stack; memory = h }
 
   -- of what a label says
-  pub proper-mark : (v : Val) → IsUsed u (v .path) → Proper u Fits Slot pick (one (mark v))
+  pub proper-mark : (v : Val) → IsUsed u (v .path) → Proper u Fits Slot pick (oneOperation (mark v))
   proper-mark v R = proper-one (mark v) (may-mark v R)
 
   module _ (v : Val) (name confidence : ℕ) (R : IsUsed u (v .path)) (c1 : 1 ≤ confidence)
       (c2 : confidence ≤ confidenceMax) where
-    pub proper-name : isName name ≡ true → Proper u Fits Slot pick (one (nameAs v name confidence))
+    pub proper-name : isName name ≡ true → Proper u Fits Slot pick (oneOperation (nameAs v name confidence))
     proper-name h = proper-one (nameAs v name confidence) (may-name v name confidence R h c1 c2)
 
     pub proper-mark-name : isName name ≡ true → Proper u Fits Slot pick (markAndName v name confidence)

@@ -1,5 +1,4 @@
--- The records that a step's labels name are used: those of an argument, of what is chosen of two operands. Assumes
--- nothing.
+-- The records that a step's labels name are used: those of an argument, of what is chosen of two operands.
 use Prim.Native.Nat.{ℕ, _≤_}
 use mathlib.Core.Path.{_≡_, sym, subst, _∙_}
 use mathlib.Core.Bool.{Bool, true, false, cond}
@@ -12,7 +11,8 @@ use Rattle.labels.specs.declared.Element.{Element}
 use Rattle.labels.specs.declared.Step.{Step}
 use Rattle.labels.specs.declared.Choice.{Choice}
 use Rattle.labels.specs.declared.Choice.the-variants.{Chosen, Neither}
-use Rattle.labels.specs.Operands.{onArg, choose}
+use Rattle.labels.specs.declared.Pattern.{Pattern}
+use Rattle.labels.specs.Operands.{onArg, passes, choose}
 use Rattle.operations.specs.Asks.{IsUsed}
 use Rattle.analyze.specs.Ready.{LabelReaches, StepReaches, ChoiceReaches}
 
@@ -32,20 +32,20 @@ or-reaches u test (Arg v) own other d L O D = go (test v)
     go true = (L, O)
     go false = D
 
-pub choice-reaches : (u : ℕ) (test : Val → Bool) (a b : Element) → LabelReaches u (a .label) → LabelReaches u (b .label)
-    → ChoiceReaches u (choose test a b)
+pub choice-reaches : (u : ℕ) (p : Pattern) (a b : Element) → LabelReaches u (a .label) → LabelReaches u (b .label)
+    → ChoiceReaches u (choose p a b)
 unfolding choose
-choice-reaches u test a b A B =
-    or-reaches u test (a .label) (a .word) b _ A B (or-reaches u test (b .label) (b .word) a Neither B A tt)
+choice-reaches u p a b A B =
+    or-reaches u (passes p) (a .label) (a .word) b _ A B (or-reaches u (passes p) (b .label) (b .word) a Neither B A tt)
 
 -- what is chosen of a step's operands is one of theirs
-pub step-choice : (u : ℕ) (x : Step) (test : Val → Bool) → StepReaches u x
-    → ChoiceReaches u (choose test (x .first) (x .second))
-step-choice u x test R = choice-reaches u test (x .first) (x .second) (R .first) (R .second)
+pub step-choice : (u : ℕ) (x : Step) (p : Pattern) → StepReaches u x
+    → ChoiceReaches u (choose p (x .first) (x .second))
+step-choice u x p R = choice-reaches u p (x .first) (x .second) (R .first) (R .second)
 
-pub given-choice : (u : ℕ) (x : Step) (test : Val → Bool) (k : Choice) → k ≡ choose test (x .first) (x .second)
+pub given-choice : (u : ℕ) (x : Step) (p : Pattern) (k : Choice) → k ≡ choose p (x .first) (x .second)
     → StepReaches u x → ChoiceReaches u k
-given-choice u x test k e R = subst (ChoiceReaches u) (sym e) (step-choice u x test R)
+given-choice u x p k e R = subst (ChoiceReaches u) (sym e) (step-choice u x p R)
 
 pub chosen-reaches : (u : ℕ) (k : Choice) (v : Val) (own : U256) (other : Element) → k ≡ Chosen v own other
     → ChoiceReaches u k → IsUsed u (v .path)

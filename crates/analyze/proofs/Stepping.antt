@@ -1,5 +1,5 @@
 -- The facts after a whole step: formed if they were, none lost, and as many as the plan on the facts before the step
--- comes to, so that question 8 can be asked of these. Assumes nothing.
+-- comes to, so that question 8 can be asked of these.
 use Prim.Native.Nat.{ℕ, _+_, _≤_}
 use mathlib.Core.Path.{_≡_, sym, ap, subst, _∙_}
 use mathlib.Core.Bool.{Bool, cond, _||_}
@@ -74,7 +74,7 @@ plan-each u p R = (R .first, (R .second, (R .third, tt)))
 
 module _ (m : Machine) (active : Bool) (bytes : List ℕ) (x : Step) where
   abbrev before : List Node
-  before = m .facts
+  before = m .state
 
   abbrev cleared : List Node
   cleared = hinted before active x
@@ -83,7 +83,7 @@ module _ (m : Machine) (active : Bool) (bytes : List ℕ) (x : Step) where
   plan = planOf before active bytes x
 
   -- the step runs the plan that is made of the facts before it
-  pub analyze-facts : analyze m active bytes x .facts ≡ runAll cleared (operations plan)
+  pub analyze-facts : analyze m active bytes x .state ≡ runAll cleared (operations plan)
   unfolding analyze runPlan
   analyze-facts = ap (λ (p : Plan). runAll cleared (operations p)) (hinted-plan before active bytes x)
 
@@ -99,7 +99,7 @@ module _ (m : Machine) (active : Bool) (bytes : List ℕ) (x : Step) where
         three-size (length before) s (plan .first) (plan .second) (plan .third) (Q .first) (Q .second) (Q .third)
 
     -- question 8's count, on the facts before the step
-    pub analyze-room : length (analyze m active bytes x .facts) ≡ length (runAll before (operations plan))
+    pub analyze-room : length (analyze m active bytes x .state) ≡ length (runAll before (operations plan))
     analyze-room =
         let f = makes (plan .first) in
         let g = makes (plan .second) in
@@ -110,7 +110,7 @@ module _ (m : Machine) (active : Bool) (bytes : List ℕ) (x : Step) where
         ap length analyze-facts ∙ size cleared ∙ (λ i. hinted-size before active x i + added i) ∙ sym (size before)
 
     -- no record is lost
-    pub analyze-grows : length before ≤ length (analyze m active bytes x .facts)
+    pub analyze-grows : length before ≤ length (analyze m active bytes x .state)
     analyze-grows =
         let e = analyze-room in
         let g = runAll-grows (length before) before (operations plan) (plan-each (length before) plan reaches) in
@@ -118,7 +118,7 @@ module _ (m : Machine) (active : Bool) (bytes : List ℕ) (x : Step) where
 
   -- question 2, said of nodes, holds of what a step leaves
   pub analyze-formed : Formed before → StepReaches (length before) x → StepFits x
-      → Formed (analyze m active bytes x .facts)
+      → Formed (analyze m active bytes x .state)
   analyze-formed F R fits =
       let O = formed-ordered before F in
       let T = plan-stores before O x R fits active bytes in

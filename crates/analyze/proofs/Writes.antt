@@ -1,5 +1,4 @@
--- What a step writes: to the stack only where question 7 asks for a slot, and to the memory at its pick. Assumes
--- nothing.
+-- What a step writes: to the stack only where question 7 asks for a slot, and to the memory at its pick.
 use Prim.Native.Nat.{ℕ}
 use mathlib.Core.Path.{_≡_}
 use mathlib.Core.Bool.{Bool}

@@ -1,10 +1,11 @@
 -- "then the first arm that matches". Each of the Rust's arms asks for one opcode of a few, so the arms stand here by
--- opcode, in its order (decision D17). Assumes nothing: these are definitions.
+-- opcode, in its order (decision D17).
 use Prim.Native.Nat.{ℕ}
 use mathlib.Core.Bool.{Bool, cond, _||_}
 use mathlib.Core.List.{List}
 use lib.Dec.{eqb}
-use Rattle.opcode.specs.Opcode.{ADD, MUL, SDIV, SMOD, SIGNEXTEND, LT, GT, EQ, ISZERO, AND, BYTE, SHL, SHR, CALLDATALOAD, CALLDATACOPY, MLOAD, MSTORE8}
+use Rattle.opcode.specs.Opcode.{ADD, MUL, SDIV, SMOD, SIGNEXTEND, LT, GT, EQ, ISZERO, AND, BYTE, SHL, SHR, CALLDATALOAD}
+use Rattle.opcode.specs.Opcode.{CALLDATACOPY, MLOAD, MSTORE8}
 use Rattle.opcode.specs.Lists.{listed, calls}
 use Rattle.facts.specs.State.{Node}
 use Rattle.labels.specs.declared.Step.{Step}
@@ -15,7 +16,7 @@ use Rattle.analyze.specs.Sum.{add}
 use Rattle.analyze.specs.Length.{mul, shl, compare}
 use Rattle.analyze.specs.Name.{call, mstore8, shr, signed, and, eq, isZero, signExtend, byte, mload}
 
--- the arm of an opcode, from the facts s
+-- the arm of an opcode, from the state s
 unfoldable pub armBy : ℕ → List Node → Bool → List ℕ → Step → Plan
 armBy op s active bytes x =
     cond (eqb op CALLDATALOAD || eqb op CALLDATACOPY) (load s x)

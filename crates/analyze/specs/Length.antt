@@ -1,4 +1,4 @@
--- Lengths: MUL and SHL of one, and its comparisons. Assumes nothing: these are definitions.
+-- Lengths: MUL and SHL of one, and its comparisons.
 use Prim.Native.Nat.{ℕ, _+_, _*_, _/_, _%_}
 use mathlib.Core.Bool.{Bool, true, false, cond, _&&_, _||_}
 use mathlib.Core.List.{List}
@@ -23,18 +23,19 @@ use Rattle.labels.specs.declared.Label.{Label}
 use Rattle.labels.specs.declared.Step.{Step}
 use Rattle.labels.specs.declared.Choice.{Choice}
 use Rattle.labels.specs.declared.Choice.the-variants.{Chosen, Neither}
-use Rattle.labels.specs.Operands.{onArg, isAny, choose, isLength, isPlainLength}
+use Rattle.labels.specs.declared.Pattern.the-variants as pattern
+use Rattle.labels.specs.Operands.{onArg, choose, isLength, isUnmaskedLength}
 use Rattle.operations.specs.declared.Operation.{Operation}
 use Rattle.operations.specs.declared.Operation.the-variants.{Nothing, MarkNotBool, SetTname, SetArray}
 use Rattle.analyze.specs.declared.OnStack.{OnStack}
 use Rattle.analyze.specs.declared.OnStack.the-variants as stack
 use Rattle.analyze.specs.declared.InMemory.the-variants as memory
 use Rattle.analyze.specs.declared.Plan.{Plan}
-use Rattle.analyze.specs.Plan.{nothing, one, three, withStack, withMemory, mark, markAndName}
+use Rattle.analyze.specs.Plan.{nothing, oneOperation, threeOperations, withStack, withMemory, mark, markAndName}
 
 -- the length at a path marked, then the other operand's argument, and one operation more
 abbrev pub markLength : ℕ → Label → Operation → Plan
-markLength path other more = three (MarkNotBool path 0) (onArg other (λ w. mark w) Nothing) more
+markLength path other more = threeOperations (MarkNotBool path 0) (onArg other (λ w. mark w) Nothing) more
 
 -- a name for the path itself: `path.split_last()` and `set_tname(rest, *last, ..)`
 abbrev pub namePath : List Node → ℕ → ℕ → ℕ → Operation
@@ -53,12 +54,13 @@ multiplied s path other Other = markLength path other Nothing
 
 -- MUL and SHL of the length at a path by a factor, beside the other operand's label: "and the path isn't the root"
 unfoldable pub multiply : List Node → ℕ → Label → ℕ → Plan
-multiply s path other factor = cond (eqb path 1) (markLength path other Nothing) (multiplied s path other (multiplierOf factor))
+multiply s path other factor =
+    cond (eqb path 1) (markLength path other Nothing) (multiplied s path other (multiplierOf factor))
 
 -- the general arm of LT, GT and MUL takes the first operand that is an argument and leaves it under a range name
 -- (decision D12)
 unfoldable pub unlessRange : List Node → Val → Plan
-unlessRange s v = cond (hasRangeHint s (v .path) (v .offset)) nothing (one (mark v))
+unlessRange s v = cond (hasRangeHint s (v .path) (v .offset)) nothing (oneOperation (mark v))
 
 abbrev pub markFirst : List Node → Choice → Plan
 markFirst s Neither = nothing
@@ -70,7 +72,7 @@ mulBy s (Chosen v own other) general = multiply s (v .path) (other .label) (valu
 mulBy s Neither general = markFirst s general
 
 unfoldable pub mul : List Node → Step → Plan
-mul s x = mulBy s (choose isLength (x .first) (x .second)) (choose isAny (x .first) (x .second))
+mul s x = mulBy s (choose pattern.Length (x .first) (x .second)) (choose pattern.Any (x .first) (x .second))
 
 -- does `guard_failure_pc` name a place?
 abbrev pub isPlace : Place → Bool
@@ -83,7 +85,7 @@ bytesShift bytes pc shift =
     cond (isPlace (guardFailurePc bytes pc true) && between 8 256 shift && eqb (shift % 8) 0) (shift / 8) 0
 
 abbrev pub bytesNamed : Val → ℕ → Plan
-bytesNamed v n = cond (eqb n 0) (one (mark v)) (markAndName v (code.fixedBytes + n) byTheRest)
+bytesNamed v n = cond (eqb n 0) (oneOperation (mark v)) (markAndName v (code.fixedBytes + n) byTheRest)
 
 -- SHL: path root and active is an arm of its own, for any offset and added value; otherwise only offset 0 and added 0,
 -- which multiplies (decision D9)
@@ -101,17 +103,19 @@ unfoldable pub comparesLength : ℕ → Bool
 comparesLength bound = eqb bound 0 || eqb bound 31
 
 abbrev pub lengthCompared : ℕ → ℕ → Plan
-lengthCompared path bound = withStack (one (MarkNotBool path 0)) (cond (comparesLength bound) (stack.Word 1) stack.Keep)
+lengthCompared path bound =
+    withStack (oneOperation (MarkNotBool path 0)) (cond (comparesLength bound) (stack.Word 1) stack.Keep)
 
 -- the length arm of LT (second operand) and GT (first operand) comes before the general arm (decision D11); for that
 -- operand's label and the other's word, beside the general arm's choice
 unfoldable pub compareWith : List Node → Label → ℕ → Choice → Plan
 compareWith s l bound general =
-    onArg l (λ v. cond (isPlainLength v) (lengthCompared (v .path) bound) (markFirst s general)) (markFirst s general)
+    onArg l (λ v. cond (isUnmaskedLength v) (lengthCompared (v .path) bound) (markFirst s general))
+    (markFirst s general)
 
 unfoldable pub compare : List Node → Step → Plan
 compare s x =
-    let general = choose isAny (x .first) (x .second) in
+    let general = choose pattern.Any (x .first) (x .second) in
     cond (eqb (x .op) LT)
     (compareWith s (x .second .label) (valueOf (x .first .word)) general)
     (compareWith s (x .first .label) (valueOf (x .second .word)) general)

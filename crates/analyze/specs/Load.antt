@@ -1,4 +1,4 @@
--- CALLDATALOAD and CALLDATACOPY: the Rust's first two arms. Assumes nothing: these are definitions.
+-- CALLDATALOAD and CALLDATACOPY: the Rust's first two arms.
 use Prim.Native.Nat.{ℕ, _-_, _*_, _/_, _%_}
 use mathlib.Core.Bool.{Bool, cond, _&&_}
 use mathlib.Core.List.{List}
@@ -19,7 +19,7 @@ use Rattle.operations.specs.declared.Operation.the-variants.{Nothing, GetOrCrea
 use Rattle.analyze.specs.declared.OnStack.the-variants as stack
 use Rattle.analyze.specs.declared.InMemory.the-variants as memory
 use Rattle.analyze.specs.declared.Plan.{Plan}
-use Rattle.analyze.specs.Plan.{nothing, one, two, withStack, withMemory, nameAs, plainArg}
+use Rattle.analyze.specs.Plan.{nothing, oneOperation, twoOperations, withStack, withMemory, nameAs, loadedArg}
 
 -- `add_val >= 4 && (add_val - 4) % 32 == 0`: a labelled load is followed behind the selector, at whole words, and does
 -- nothing elsewhere (decision D5)
@@ -45,8 +45,7 @@ abbrev pub follow : Val → ℕ → Operation
 follow v offset = SetDynamic (v .path) (v .offset) (offset / wordBytes)
 
 -- what is copied to the entry that was picked is bytes; the dynamic mark is set with pick 0 too, bytes and the label
--- need a pick
--- (decision D7)
+-- need a pick (decision D7)
 abbrev pub nameCopied : ℕ → Val → Operation
 nameCopied pick v = cond (eqb pick 0) Nothing (nameAs v code.bytes byBytes)
 
@@ -54,8 +53,8 @@ nameCopied pick v = cond (eqb pick 0) Nothing (nameAs v code.bytes byBytes)
 abbrev pub followed : Step → Val → ℕ → Plan
 followed x v offset =
     cond (toStack x)
-    (withStack (one (follow v offset)) (stack.Loaded offset))
-    (withMemory (two (follow v offset) (nameCopied (x .pick) v)) (memory.Loaded (x .pick) offset))
+    (withStack (oneOperation (follow v offset)) (stack.Loaded offset))
+    (withMemory (twoOperations (follow v offset) (nameCopied (x .pick) v)) (memory.Loaded (x .pick) offset))
 
 unfoldable pub labelledLoad : List Node → Step → Val → Plan
 labelledLoad s x v = cond (isWholeWord (v .«add_val»)) (followed x v (newOffset s v)) nothing
@@ -68,8 +67,8 @@ isFollowed offset = between selectorBytes loadMax offset
 abbrev pub found : Step → ℕ → Plan
 found x key =
     cond (toStack x)
-    (withStack (one (GetOrCreate 1 key)) (stack.Label (plainArg key 1)))
-    (withMemory (one (GetOrCreate 1 key)) (memory.Label (x .pick) (plainArg key 1)))
+    (withStack (oneOperation (GetOrCreate 1 key)) (stack.Label (loadedArg key 1)))
+    (withMemory (oneOperation (GetOrCreate 1 key)) (memory.Label (x .pick) (loadedArg key 1)))
 
 unfoldable pub unlabelledLoad : Step → ℕ → Plan
 unlabelledLoad x offset = cond (isFollowed offset) (found x (offset - selectorBytes)) nothing

@@ -1,4 +1,4 @@
--- The phases before the arms: "hints cleared, range rule, decoder phase". Assumes nothing: these are definitions.
+-- The phases before the arms: "hints cleared, range rule, decoder phase".
 use Prim.Native.Nat.{ℕ, _+_}
 use mathlib.Core.Bool.{Bool, false, cond, not, _&&_, _||_}
 use mathlib.Core.List.{List}
@@ -21,7 +21,7 @@ use Rattle.analyze.specs.declared.Comparison.{Comparison}
 use Rattle.analyze.specs.declared.Comparison.the-variants as comparison
 use Rattle.analyze.specs.declared.Plan.{Plan}
 use Rattle.analyze.specs.declared.Hints.{Hints}
-use Rattle.analyze.specs.Plan.{nothing, two, nameAs}
+use Rattle.analyze.specs.Plan.{nothing, twoOperations, nameAs}
 
 abbrev pub both : Operation → Operation → Hints
 both a b = record { first = a; second = b }
@@ -47,8 +47,8 @@ hintsOf active x = cond (eqb (x .op) REVERT && active) (both ClearRangeHints Not
 
 -- does the comparison of v with that bound name a range? Added 0, unmasked, offset not 0 unless the path is the root
 -- (decision D2). lessThan: it is value < bound
-unfoldable pub ranges : List ℕ → ℕ → Val → U256 → Bool → Bool
-ranges bytes pc v bound lessThan =
+unfoldable pub namesRange : List ℕ → ℕ → Val → U256 → Bool → Bool
+namesRange bytes pc v bound lessThan =
     eqb (v .«add_val») 0 && isUnmasked (v .«and_mask») && (not (eqb (v .offset) 0) || eqb (v .path) 1)
     && isRangeBound (valueOf bound) lessThan && isEmptyRevertGuard bytes pc lessThan
 
@@ -62,23 +62,24 @@ comparisonOf x =
     (onArg (x .second .label) (λ v. comparison.Of v (x .first .word) (eqb (x .op) GT)) comparison.Nothing)
     comparison.Nothing)
 
-abbrev pub rangesBy : List ℕ → ℕ → Comparison → Bool
-rangesBy bytes pc comparison.Nothing = false
-rangesBy bytes pc (comparison.Of v bound lessThan) = ranges bytes pc v bound lessThan
+-- f of what is compared; otherwise d
+abbrev pub onComparison : {A : Type 0} → Comparison → (Val → U256 → Bool → A) → A → A
+onComparison comparison.Nothing f d = d
+onComparison (comparison.Of v bound lessThan) f d = f v bound lessThan
 
 -- does the range rule apply? "the step then stops"
 unfoldable pub rangeRule : Bool → List ℕ → Step → Bool
-rangeRule active bytes x = active && (eqb (x .op) LT || eqb (x .op) GT) && rangesBy bytes (x .pc) (comparisonOf x)
+rangeRule active bytes x =
+    active && (eqb (x .op) LT || eqb (x .op) GT) && onComparison (comparisonOf x) (namesRange bytes (x .pc)) false
 
 -- "Range rule: a bound of 1 to 255 inclusive (LT's own bound is one more) before an empty revert names uint8 at 6 and
 -- marks not-bool"; the mark is set directly, since `mark_not_bool` would drop the new name (decision D3)
-abbrev pub rangedBy : Comparison → Plan
-rangedBy comparison.Nothing = nothing
-rangedBy (comparison.Of v bound lessThan) = two (nameAs v (code.uint + 8) byRange) (InsertNotBool (v .path) (v .offset))
+abbrev pub nameRange : Val → U256 → Bool → Plan
+nameRange v bound lessThan = twoOperations (nameAs v (code.uint + 8) byRange) (InsertNotBool (v .path) (v .offset))
 
 -- what it does
 unfoldable pub rangePlan : Step → Plan
-rangePlan x = rangedBy (comparisonOf x)
+rangePlan x = onComparison (comparisonOf x) nameRange nothing
 
 -- the decoder's phase: "Each of SLOAD, .. and LOG0 to LOG4 ends the decoder phase."
 unfoldable pub activeAfter : Bool → Step → Bool

@@ -1,6 +1,5 @@
--- A step as data: the operations of the Rust's `ArgsResult` that it runs on the facts, in order, and what it writes to
--- the stack and to the memory. Assumes
--- nothing: these are definitions.
+-- A step as data: the operations of the Rust's `ArgsResult` that it runs on the state, in order, and what it writes to
+-- the stack and to the memory (decision D20).
 use Prim.Native.Nat.{ℕ}
 use mathlib.Core.Bool.{Bool, cond, not, _&&_}
 use mathlib.Core.List.{List, [], _∷_}
@@ -14,7 +13,8 @@ use Rattle.labels.specs.declared.Label.the-variants.{Arg}
 use Rattle.labels.specs.declared.Mask.the-variants.{Unmasked}
 use Rattle.labels.specs.Stack.{withTopLabel, withTopWord, withPickLabel, withPickOne, stackOnes, memoryOnes}
 use Rattle.operations.specs.declared.Operation.{Operation}
-use Rattle.operations.specs.declared.Operation.the-variants.{Nothing, ClearRangeHint, ClearRangeHints, MarkNotBool, InsertNotBool, GetOrCreate, SetTname, SetDynamic, SetArray}
+use Rattle.operations.specs.declared.Operation.the-variants.{Nothing, ClearRangeHint, ClearRangeHints, MarkNotBool}
+use Rattle.operations.specs.declared.Operation.the-variants.{InsertNotBool, GetOrCreate, SetTname, SetDynamic, SetArray}
 use Rattle.analyze.specs.declared.OnStack.{OnStack}
 use Rattle.analyze.specs.declared.OnStack.the-variants as stack
 use Rattle.analyze.specs.declared.InMemory.{InMemory}
@@ -23,17 +23,17 @@ use Rattle.analyze.specs.declared.Plan.{Plan}
 use Rattle.analyze.specs.declared.Hints.{Hints}
 
 -- a plan of so many operations that writes to neither
-abbrev pub three : Operation → Operation → Operation → Plan
-three a b c = record { first = a; second = b; third = c; stack = stack.Keep; memory = memory.Keep }
+abbrev pub threeOperations : Operation → Operation → Operation → Plan
+threeOperations a b c = record { first = a; second = b; third = c; stack = stack.Keep; memory = memory.Keep }
 
-abbrev pub two : Operation → Operation → Plan
-two a b = three a b Nothing
+abbrev pub twoOperations : Operation → Operation → Plan
+twoOperations a b = threeOperations a b Nothing
 
-abbrev pub one : Operation → Plan
-one a = two a Nothing
+abbrev pub oneOperation : Operation → Plan
+oneOperation a = twoOperations a Nothing
 
 abbrev pub nothing : Plan
-nothing = one Nothing
+nothing = oneOperation Nothing
 
 -- one that writes to the stack, or to the memory
 abbrev pub withStack : Plan → OnStack → Plan
@@ -56,7 +56,7 @@ nameAs v code confidence = SetTname (v .path) (v .offset) code confidence
 
 -- both, in this order
 abbrev pub markAndName : Val → ℕ → ℕ → Plan
-markAndName v code confidence = two (mark v) (nameAs v code confidence)
+markAndName v code confidence = twoOperations (mark v) (nameAs v code confidence)
 
 -- the operations of the phases, in order
 abbrev pub hintOperations : Hints → List Operation
@@ -77,13 +77,13 @@ loadedPath s (SetTname p k code confidence) = 0
 loadedPath s (SetDynamic p k count) = ensure s p k .number
 loadedPath s (SetArray r count) = 0
 
--- `*args.array_in_path(&full_path).last()`, of the facts after the operations
+-- `*args.array_in_path(&full_path).last()`, of the state after the operations
 abbrev pub isArray : List Node → ℕ → Bool
 isArray s r = not (eqb r 0) && eqb (nodeOf s r .kind) kindArray
 
 -- the label of an argument, nothing added and no mask
-abbrev pub plainArg : ℕ → ℕ → Label
-plainArg offset path = Arg (record { offset = offset; path = path; «add_val» = 0; «and_mask» = Unmasked })
+abbrev pub loadedArg : ℕ → ℕ → Label
+loadedArg offset path = Arg (record { offset = offset; path = path; «add_val» = 0; «and_mask» = Unmasked })
 
 -- the stack after a step. path is the path that a labelled load found, and array says whether it is an array: the load
 -- of offset 0 is then its length, which becomes 1. An array mark: every slot and entry of kind 2, offset 0, that path,
@@ -94,7 +94,7 @@ writeStack (stack.Word n) path array s = withTopWord s n
 writeStack (stack.Label l) path array s = withTopLabel s l
 writeStack (stack.WordLabel n l) path array s = withTopLabel (withTopWord s n) l
 writeStack (stack.Loaded offset) path array s =
-    withTopLabel (cond (eqb offset 0 && array) (withTopWord s 1) s) (plainArg offset path)
+    withTopLabel (cond (eqb offset 0 && array) (withTopWord s 1) s) (loadedArg offset path)
 writeStack (stack.Ones marked word) path array s = withTopWord (stackOnes marked s) word
 
 -- the memory after it
@@ -102,5 +102,5 @@ unfoldable pub writeMemory : InMemory → ℕ → Bool → List ℕ → List ℕ
 writeMemory memory.Keep path array s = s
 writeMemory (memory.Label pick l) path array s = withPickLabel s pick l
 writeMemory (memory.Loaded pick offset) path array s =
-    withPickLabel (cond (eqb offset 0 && array) (withPickOne s pick) s) pick (plainArg offset path)
+    withPickLabel (cond (eqb offset 0 && array) (withPickOne s pick) s) pick (loadedArg offset path)
 writeMemory (memory.Ones marked) path array s = memoryOnes marked s

@@ -1,6 +1,5 @@
--- What the code of a step asks for: labels whose paths are used records, in a table that holds facts. In these words
+-- What the code of a step asks for: labels whose paths are used records, in a table that holds a state. In these words
 -- one function promises something to another.
--- Assumes nothing: these are definitions.
 use Prim.Native.Nat.{ℕ, _≤_}
 use mathlib.Core.List.{List}
 use Rattle.limits.specs.Limits.{recordsMax}
@@ -15,7 +14,7 @@ use Rattle.operations.specs.Asks.{IsUsed, Reaches}
 use Rattle.analyze.specs.declared.Plan.{Plan}
 use Rattle.analyze.specs.declared.Hints.{Hints}
 
--- a table of n records that holds the facts of its first used ones
+-- a table of n records that holds the state of its first used ones
 pub record Ready (t : List ℕ) (used n : ℕ) : Type 0 where
   pub shaped : Shaped t used n
   pub small : n ≤ recordsMax

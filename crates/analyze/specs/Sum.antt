@@ -1,4 +1,4 @@
--- ADD. Assumes nothing: these are definitions.
+-- ADD.
 use Prim.Native.Nat.{ℕ, _+_, _-_, _^_}
 use mathlib.Core.Bool.{Bool, cond, not, _&&_}
 use mathlib.Core.List.{List}
@@ -17,11 +17,12 @@ use Rattle.labels.specs.declared.Label.the-variants.{Arg}
 use Rattle.labels.specs.declared.Step.{Step}
 use Rattle.labels.specs.declared.Choice.{Choice}
 use Rattle.labels.specs.declared.Choice.the-variants.{Chosen, Neither}
-use Rattle.labels.specs.Operands.{onArg, isAny, choose, isLength}
+use Rattle.labels.specs.declared.Pattern.the-variants as pattern
+use Rattle.labels.specs.Operands.{onArg, choose, isLength}
 use Rattle.analyze.specs.declared.OnStack.{OnStack}
 use Rattle.analyze.specs.declared.OnStack.the-variants as stack
 use Rattle.analyze.specs.declared.Plan.{Plan}
-use Rattle.analyze.specs.Plan.{nothing, one, two, withStack, mark}
+use Rattle.analyze.specs.Plan.{nothing, oneOperation, twoOperations, withStack, mark}
 
 -- the label with another constant added
 abbrev pub withAdded : Val → ℕ → Label
@@ -38,7 +39,8 @@ keptLabel v (Number sum) = stack.Label (withAdded v sum)
 
 -- both operands are arguments: `f_add_val.checked_add(s_add_val)`
 unfoldable pub addBoth : List Node → Val → Val → Plan
-addBoth s f g = withStack (two (mark f) (mark g)) (keptLabel (winner s f g) (keptOf (f .«add_val» + g .«add_val»)))
+addBoth s f g =
+    withStack (twoOperations (mark f) (mark g)) (keptLabel (winner s f g) (keptOf (f .«add_val» + g .«add_val»)))
 
 -- `sub(-1) as add(0xff..ff)`: a length that is zero, and 2^256 - 1 added to it
 unfoldable pub isLessOne : Val → U256 → U256 → Bool
@@ -59,9 +61,9 @@ addConstant v own other =
 -- at most one operand is an argument
 abbrev pub addOne : Choice → Plan
 addOne Neither = nothing
-addOne (Chosen v own other) = withStack (one (mark v)) (addConstant v own (other .word))
+addOne (Chosen v own other) = withStack (oneOperation (mark v)) (addConstant v own (other .word))
 
 unfoldable pub add : List Node → Step → Plan
 add s x =
-    let lone = addOne (choose isAny (x .first) (x .second)) in
+    let lone = addOne (choose pattern.Any (x .first) (x .second)) in
     onArg (x .first .label) (λ f. onArg (x .second .label) (λ g. addBoth s f g) lone) lone

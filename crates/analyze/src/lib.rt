@@ -1,6 +1,6 @@
 // What a step does, as data and as definitions: specs/ is the Rust's `analyze`, phase by phase and arm by arm. A step
-// is a plan: operations on the facts, at most one
-// thing that is written to the stack and one to the memory. The crate `arms` makes the plan, and `step` runs it.
+// is a plan: operations on the facts, at most one thing that is written to the stack and one to the memory. The crate
+// `arms` makes the plan, and `step` runs it.
 use labels::Label;
 use labels::Val;
 use operations::Operation;

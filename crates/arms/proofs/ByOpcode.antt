@@ -1,5 +1,5 @@
 -- Which arm an opcode has, in the forms in which a `match` on it tells the opcode: keys of an arm, neighbours as a
--- range, or none of them. Assumes nothing.
+-- range, or none of them.
 use Prim.Native.Nat.{ℕ, _+_, _≤_, _<_}
 use mathlib.Core.Path.{_≡_, refl, sym, ap, _∙_}
 use mathlib.Core.Bool.{Bool}
@@ -9,7 +9,8 @@ use native.Mathlib.Nat.{eq-or-lt-of-le}
 use native.Mathlib.Omega.{arith}
 use types.Run.{OneOf}
 use borrow.Author.Tests.{ne-eqb}
-use Rattle.opcode.specs.Opcode.{ADD, MUL, SDIV, SMOD, SIGNEXTEND, LT, GT, EQ, ISZERO, AND, BYTE, SHL, SHR, CALLDATALOAD, CALLDATACOPY, MLOAD, MSTORE8, CALL, CALLCODE, DELEGATECALL, STATICCALL}
+use Rattle.opcode.specs.Opcode.{ADD, MUL, SDIV, SMOD, SIGNEXTEND, LT, GT, EQ, ISZERO, AND, BYTE, SHL, SHR, CALLDATALOAD}
+use Rattle.opcode.specs.Opcode.{CALLDATACOPY, MLOAD, MSTORE8, CALL, CALLCODE, DELEGATECALL, STATICCALL}
 use Rattle.opcode.specs.Lists.{listed, calls}
 use Rattle.facts.specs.State.{Node}
 use Rattle.labels.specs.declared.Step.{Step}
@@ -21,7 +22,7 @@ use Rattle.analyze.specs.Length.{mul, shl, compare}
 use Rattle.analyze.specs.Name.{call, mstore8, shr, signed, and, eq, isZero, signExtend, byte, mload}
 use Rattle.analyze.specs.Arms.{armBy}
 
--- no key of an arm, ranges apart
+-- no key of an arm, namesRange apart
 abbrev pub Rest : ℕ → Type 0
 Rest op =
     (((((((((((((Unit {0}
@@ -148,7 +149,7 @@ module _ (op : ℕ) (s : List Node) (active : Bool) (bytes : List ℕ) (x : Step
           ne-eqb op CALLCODE callcode,
         )
 
-    -- below, between or above the ranges
+    -- below, between or above the namesRange
     pub apart-low : op < LT → r ≡ armBy op s active bytes x
     apart-low h = apart (λ (q : op ≡ LT). omega arith) (λ (q : op ≡ GT). omega arith) (λ (q : op ≡ CALL). omega arith) (λ (q : op ≡ CALLCODE). omega arith)
 

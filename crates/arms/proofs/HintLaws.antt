@@ -1,4 +1,4 @@
--- Which range hints a step clears. Assumes nothing.
+-- Which range hints a step clears.
 use Prim.Native.Nat.{ℕ}
 use mathlib.Core.Path.{_≡_, sym, ap, _∙_}
 use mathlib.Core.Bool.{Bool, true, false, cond, not, _&&_, _||_}

@@ -1,4 +1,4 @@
--- What MUL, SHL, LT and GT plan, by what their labels say. Assumes nothing.
+-- What MUL, SHL, LT and GT plan, by what their labels say.
 use Prim.Native.Nat.{ℕ, _+_, _*_, _/_, _%_, _^_, _≤_, _<_}
 use mathlib.Core.Path.{_≡_, refl, sym, ap, subst, _∙_}
 use mathlib.Core.Bool.{Bool, true, false, cond, not, _&&_, _||_, and-false}
@@ -35,24 +35,27 @@ use Rattle.labels.specs.declared.Element.{Element}
 use Rattle.labels.specs.declared.Step.{Step}
 use Rattle.labels.specs.declared.Choice.{Choice}
 use Rattle.labels.specs.declared.Choice.the-variants.{Chosen, Neither}
-use Rattle.labels.specs.Operands.{isAny, isLength, isPlainLength, choose}
+use Rattle.labels.specs.declared.Pattern.the-variants as pattern
+use Rattle.labels.specs.Operands.{isLength, isUnmaskedLength, choose}
 use Rattle.labels.proofs.Choosing.{NoArg, on-arg, on-none}
 use Rattle.operations.specs.declared.Operation.{Operation}
 use Rattle.operations.specs.declared.Operation.the-variants.{Nothing, MarkNotBool, SetTname, SetArray}
 use Rattle.operations.specs.Asks.{IsUsed}
 use Rattle.analyze.specs.declared.OnStack.the-variants as stack
 use Rattle.analyze.specs.declared.Plan.{Plan}
-use Rattle.analyze.specs.Plan.{nothing, one, two, three, withStack, mark, markAndName}
-use Rattle.analyze.specs.Length.{markLength, namePath, withOnes, multiplied, multiply, unlessRange, markFirst, mulBy, mul}
-use Rattle.analyze.specs.Length.{isPlace, bytesShift, bytesNamed, shlOf, shl, comparesLength, lengthCompared, compareWith, compare}
+use Rattle.analyze.specs.Plan.{nothing, oneOperation, twoOperations, threeOperations, withStack, mark, markAndName}
+use Rattle.analyze.specs.Length.{markLength, namePath, withOnes, multiplied, multiply, unlessRange, markFirst, mulBy}
+use Rattle.analyze.specs.Length.{mul}
+use Rattle.analyze.specs.Length.{isPlace, bytesShift, bytesNamed, shlOf, shl, comparesLength, lengthCompared}
+use Rattle.analyze.specs.Length.{compareWith, compare}
 
 -- a length marked, beside the other operand
 module _ (path : ℕ) (other : Label) (more : Operation) (r : Plan) where
-  pub length-alone : r ≡ three (MarkNotBool path 0) Nothing more → NoArg other → r ≡ markLength path other more
-  length-alone h n = h ∙ ap (λ (o : Operation). three (MarkNotBool path 0) o more) (on-none other (λ w. mark w) Nothing n)
+  pub length-alone : r ≡ threeOperations (MarkNotBool path 0) Nothing more → NoArg other → r ≡ markLength path other more
+  length-alone h n = h ∙ ap (λ (o : Operation). threeOperations (MarkNotBool path 0) o more) (on-none other (λ w. mark w) Nothing n)
 
-  pub length-beside : (w : Val) → other ≡ Arg w → r ≡ three (MarkNotBool path 0) (mark w) more → r ≡ markLength path other more
-  length-beside w q h = h ∙ ap (λ (o : Operation). three (MarkNotBool path 0) o more) (on-arg other (λ (v : Val). mark v) Nothing w q)
+  pub length-beside : (w : Val) → other ≡ Arg w → r ≡ threeOperations (MarkNotBool path 0) (mark w) more → r ≡ markLength path other more
+  length-beside w q h = h ∙ ap (λ (o : Operation). threeOperations (MarkNotBool path 0) o more) (on-arg other (λ (v : Val). mark v) Nothing w q)
 
 -- a name for a path that is there
 pub path-named : (t : List ℕ) (u path name confidence p k : ℕ) → IsUsed u path → p ≡ parentOf t path → k ≡ keyOf t path
@@ -99,7 +102,7 @@ module _ (s : List Node) (v : Val) (b : Bool) (eb : b ≡ hasRangeHint s (v .pat
   unfolding unlessRange
   ranged h f = h ∙ simp (← eb, f)
 
-  pub unranged : r ≡ one (mark v) → b ≡ false → r ≡ unlessRange s v
+  pub unranged : r ≡ oneOperation (mark v) → b ≡ false → r ≡ unlessRange s v
   unfolding unlessRange
   unranged h f = h ∙ simp (← eb, f)
 
@@ -110,15 +113,15 @@ module _ (s : List Node) (k : Choice) (r : Plan) where
   pub first-some : (v : Val) (own : U256) (other : Element) → k ≡ Chosen v own other → r ≡ unlessRange s v → r ≡ markFirst s k
   first-some v own other q h = h ∙ ap (markFirst s) (sym q)
 
-module _ (s : List Node) (x : Step) (k : Choice) (ek : k ≡ choose isLength (x .first) (x .second)) (r : Plan) where
-  pub mul-general : k ≡ Neither → (g : Choice) → g ≡ choose isAny (x .first) (x .second) → r ≡ markFirst s g → r ≡ mul s x
+module _ (s : List Node) (x : Step) (k : Choice) (ek : k ≡ choose pattern.Length (x .first) (x .second)) (r : Plan) where
+  pub mul-general : k ≡ Neither → (g : Choice) → g ≡ choose pattern.Any (x .first) (x .second) → r ≡ markFirst s g → r ≡ mul s x
   unfolding mul
-  mul-general q g eg h = h ∙ ap (markFirst s) eg ∙ ap (λ (c : Choice). mulBy s c (choose isAny (x .first) (x .second))) (sym q ∙ ek)
+  mul-general q g eg h = h ∙ ap (markFirst s) eg ∙ ap (λ (c : Choice). mulBy s c (choose pattern.Any (x .first) (x .second))) (sym q ∙ ek)
 
   pub mul-length : (v : Val) (own : U256) (other : Element) → k ≡ Chosen v own other
       → r ≡ multiply s (v .path) (other .label) (valueOf (other .word)) → r ≡ mul s x
   unfolding mul
-  mul-length v own other q h = h ∙ ap (λ (c : Choice). mulBy s c (choose isAny (x .first) (x .second))) (sym q ∙ ek)
+  mul-length v own other q h = h ∙ ap (λ (c : Choice). mulBy s c (choose pattern.Any (x .first) (x .second))) (sym q ∙ ek)
 
 -- the bytes of a shift by m
 module _ (bytes : List ℕ) (pc m : ℕ) where
@@ -173,7 +176,7 @@ pub bytes-most : (bytes : List ℕ) (pc m k : ℕ) → k ≡ bytesShift bytes pc
 bytes-most bytes pc m k e = let h = shift-most bytes pc m in omega arith
 
 module _ (v : Val) (n : ℕ) (r : Plan) where
-  pub bytes-none : r ≡ one (mark v) → n ≡ 0 → r ≡ bytesNamed v n
+  pub bytes-none : r ≡ oneOperation (mark v) → n ≡ 0 → r ≡ bytesNamed v n
   bytes-none h q = h ∙ simp (eq-eqb n 0 q)
 
   pub bytes-some : r ≡ markAndName v (code.fixedBytes + n) byTheRest → (n ≡ 0 → ⊥) → r ≡ bytesNamed v n
@@ -211,10 +214,10 @@ unfolding comparesLength
 compares-is bound a b ea eb i = ea i || eb i
 
 module _ (path bound : ℕ) (b : Bool) (eb : b ≡ comparesLength bound) (r : Plan) where
-  pub length-word : r ≡ withStack (two (MarkNotBool path 0) Nothing) (stack.Word 1) → b ≡ true → r ≡ lengthCompared path bound
+  pub length-word : r ≡ withStack (twoOperations (MarkNotBool path 0) Nothing) (stack.Word 1) → b ≡ true → r ≡ lengthCompared path bound
   length-word h f = h ∙ simp (← eb, f)
 
-  pub length-kept : r ≡ one (MarkNotBool path 0) → b ≡ false → r ≡ lengthCompared path bound
+  pub length-kept : r ≡ oneOperation (MarkNotBool path 0) → b ≡ false → r ≡ lengthCompared path bound
   length-kept h f = h ∙ simp (← eb, f)
 
 module _ (s : List Node) (l : Label) (bound : ℕ) (general : Choice) (r : Plan) where
@@ -222,18 +225,18 @@ module _ (s : List Node) (l : Label) (bound : ℕ) (general : Choice) (r : Plan)
   unfolding compareWith
   compared-none h n = h ∙ on-none l _ (markFirst s general) n
 
-  module _ (v : Val) (q : l ≡ Arg v) (b : Bool) (eb : b ≡ isPlainLength v) where
+  module _ (v : Val) (q : l ≡ Arg v) (b : Bool) (eb : b ≡ isUnmaskedLength v) where
     pub compared-length : r ≡ lengthCompared (v .path) bound → b ≡ true → r ≡ compareWith s l bound general
     unfolding compareWith
     compared-length h f =
-        h ∙ (simp (← eb, f)) ∙ on-arg l (λ (w : Val). cond (isPlainLength w) (lengthCompared (w .path) bound) (markFirst s general)) (markFirst s general) v q
+        h ∙ (simp (← eb, f)) ∙ on-arg l (λ (w : Val). cond (isUnmaskedLength w) (lengthCompared (w .path) bound) (markFirst s general)) (markFirst s general) v q
 
     pub compared-other : r ≡ markFirst s general → b ≡ false → r ≡ compareWith s l bound general
     unfolding compareWith
     compared-other h f =
-        h ∙ (simp (← eb, f)) ∙ on-arg l (λ (w : Val). cond (isPlainLength w) (lengthCompared (w .path) bound) (markFirst s general)) (markFirst s general) v q
+        h ∙ (simp (← eb, f)) ∙ on-arg l (λ (w : Val). cond (isUnmaskedLength w) (lengthCompared (w .path) bound) (markFirst s general)) (markFirst s general) v q
 
-module _ (s : List Node) (x : Step) (g : Choice) (eg : g ≡ choose isAny (x .first) (x .second)) (r : Plan) where
+module _ (s : List Node) (x : Step) (g : Choice) (eg : g ≡ choose pattern.Any (x .first) (x .second)) (r : Plan) where
   pub compare-less : x .op ≡ LT → r ≡ compareWith s (x .second .label) (valueOf (x .first .word)) g → r ≡ compare s x
   unfolding compare
   compare-less q h = h ∙ ap (compareWith s (x .second .label) (valueOf (x .first .word))) eg ∙ simp (eq-eqb (x .op) LT q)

@@ -1,5 +1,4 @@
--- What a load plans: when it is followed, the offset from the full path, and what becomes of what was loaded. Assumes
--- nothing.
+-- What a load plans: when it is followed, the offset from the full path, and what becomes of what was loaded.
 use Prim.Native.Nat.{ℕ, zero, suc, _+_, _-_, _*_, _/_, _%_, _^_, _≤_, _<_}
 use mathlib.Core.Path.{_≡_, refl, sym, ap, _∙_}
 use mathlib.Core.Bool.{Bool, true, false, false≢true, cond, _&&_, _||_}
@@ -29,8 +28,9 @@ use Rattle.operations.specs.Asks.{IsUsed}
 use Rattle.analyze.specs.declared.OnStack.the-variants as stack
 use Rattle.analyze.specs.declared.InMemory.the-variants as memory
 use Rattle.analyze.specs.declared.Plan.{Plan}
-use Rattle.analyze.specs.Plan.{nothing, two, withStack, withMemory, nameAs, plainArg}
-use Rattle.analyze.specs.Load.{isWholeWord, arraysOff, newOffset, follow, nameCopied, followed, labelledLoad, isFollowed, found, unlabelledLoad, load}
+use Rattle.analyze.specs.Plan.{nothing, twoOperations, withStack, withMemory, nameAs, loadedArg}
+use Rattle.analyze.specs.Load.{isWholeWord, arraysOff, newOffset, follow, nameCopied, followed, labelledLoad}
+use Rattle.analyze.specs.Load.{isFollowed, found, unlabelledLoad, load}
 use Rattle.analyze.specs.Ready.{Ready}
 
 -- when it is followed
@@ -123,13 +123,13 @@ module _ (pick : ℕ) (v : Val) where
 
 -- what was loaded: to the stack, or to the memory
 module _ (x : Step) (v : Val) (offset : ℕ) (r : Plan) where
-  pub to-stack : r ≡ withStack (two (follow v offset) Nothing) (stack.Loaded offset) → x .op ≡ CALLDATALOAD → r ≡ followed x v offset
+  pub to-stack : r ≡ withStack (twoOperations (follow v offset) Nothing) (stack.Loaded offset) → x .op ≡ CALLDATALOAD → r ≡ followed x v offset
   to-stack h q = h ∙ simp (eq-eqb (x .op) CALLDATALOAD q)
 
-  pub to-memory : (o : Operation) → o ≡ nameCopied (x .pick) v → r ≡ withMemory (two (follow v offset) o) (memory.Loaded (x .pick) offset)
+  pub to-memory : (o : Operation) → o ≡ nameCopied (x .pick) v → r ≡ withMemory (twoOperations (follow v offset) o) (memory.Loaded (x .pick) offset)
       → (x .op ≡ CALLDATALOAD → ⊥) → r ≡ followed x v offset
   to-memory o eo h q =
-      h ∙ ap (λ (c : Operation). withMemory (two (follow v offset) c) (memory.Loaded (x .pick) offset)) eo ∙ simp (ne-eqb (x .op) CALLDATALOAD q)
+      h ∙ ap (λ (c : Operation). withMemory (twoOperations (follow v offset) c) (memory.Loaded (x .pick) offset)) eo ∙ simp (ne-eqb (x .op) CALLDATALOAD q)
 
 module _ (s : List Node) (x : Step) (v : Val) (b : Bool) (eb : b ≡ isWholeWord (v .«add_val»)) (r : Plan) where
   pub load-whole : b ≡ true → (offset : ℕ) → offset ≡ newOffset s v → r ≡ followed x v offset → r ≡ labelledLoad s x v
@@ -141,14 +141,14 @@ module _ (s : List Node) (x : Step) (v : Val) (b : Bool) (eb : b ≡ isWholeWord
   load-other f h = h ∙ simp (← eb, f)
 
 -- an unlabelled load
-module _ (x : Step) (key : ℕ) (l : Label) (el : l ≡ plainArg key 1) (r : Plan) where
-  pub found-stack : r ≡ withStack (two (GetOrCreate 1 key) Nothing) (stack.Label l) → x .op ≡ CALLDATALOAD → r ≡ found x key
+module _ (x : Step) (key : ℕ) (l : Label) (el : l ≡ loadedArg key 1) (r : Plan) where
+  pub found-stack : r ≡ withStack (twoOperations (GetOrCreate 1 key) Nothing) (stack.Label l) → x .op ≡ CALLDATALOAD → r ≡ found x key
   found-stack h q =
-      h ∙ ap (λ (m : Label). withStack (two (GetOrCreate 1 key) Nothing) (stack.Label m)) el ∙ simp (eq-eqb (x .op) CALLDATALOAD q)
+      h ∙ ap (λ (m : Label). withStack (twoOperations (GetOrCreate 1 key) Nothing) (stack.Label m)) el ∙ simp (eq-eqb (x .op) CALLDATALOAD q)
 
-  pub found-memory : r ≡ withMemory (two (GetOrCreate 1 key) Nothing) (memory.Label (x .pick) l) → (x .op ≡ CALLDATALOAD → ⊥) → r ≡ found x key
+  pub found-memory : r ≡ withMemory (twoOperations (GetOrCreate 1 key) Nothing) (memory.Label (x .pick) l) → (x .op ≡ CALLDATALOAD → ⊥) → r ≡ found x key
   found-memory h q =
-      h ∙ ap (λ (m : Label). withMemory (two (GetOrCreate 1 key) Nothing) (memory.Label (x .pick) m)) el ∙ simp (ne-eqb (x .op) CALLDATALOAD q)
+      h ∙ ap (λ (m : Label). withMemory (twoOperations (GetOrCreate 1 key) Nothing) (memory.Label (x .pick) m)) el ∙ simp (ne-eqb (x .op) CALLDATALOAD q)
 
 is-followed : (m : ℕ) → selectorBytes ≤ m → m ≤ loadMax → isFollowed m ≡ true
 unfolding isFollowed

@@ -1,4 +1,4 @@
--- What the arms that name an argument plan, by what their labels say. Assumes nothing.
+-- What the arms that name an argument plan, by what their labels say.
 use Prim.Native.Nat.{ℕ, _+_, _*_, _^_, _≤_, _<_}
 use mathlib.Core.Path.{_≡_, refl, sym, ap, subst, _∙_}
 use mathlib.Core.Bool.{Bool, true, false, cond, not, _&&_}
@@ -28,13 +28,15 @@ use Rattle.labels.specs.declared.Element.{Element}
 use Rattle.labels.specs.declared.Step.{Step}
 use Rattle.labels.specs.declared.Choice.{Choice}
 use Rattle.labels.specs.declared.Choice.the-variants.{Chosen, Neither}
-use Rattle.labels.specs.Operands.{isAny, isUnmasked, isPlain, choose, sameArg}
-use Rattle.labels.proofs.Choosing.{NoArg, on-arg, on-none, plain-is}
+use Rattle.labels.specs.declared.Pattern.the-variants as pattern
+use Rattle.labels.specs.Operands.{isUnmasked, choose, sameArg}
+use Rattle.labels.proofs.Choosing.{NoArg, on-arg, on-none}
 use Rattle.analyze.specs.declared.OnStack.the-variants as stack
 use Rattle.analyze.specs.declared.Plan.{Plan}
-use Rattle.analyze.specs.Plan.{nothing, one, two, withStack, labelTop, mark, nameAs, markAndName}
+use Rattle.analyze.specs.Plan.{nothing, oneOperation, twoOperations, withStack, labelTop, mark, nameAs, markAndName}
 use Rattle.analyze.specs.Length.{isPlace}
-use Rattle.analyze.specs.Name.{call, mstore8, widthName, nameIf, shr, signedFirst, signed, withMask, masked, andFirst, and, eqMasked, eqBoth, eq, isZero, signExtend, byte, mload}
+use Rattle.analyze.specs.Name.{call, mstore8, widthName, nameIf, shr, signedFirst, signed, withMask, masked, andFirst}
+use Rattle.analyze.specs.Name.{and, eqMasked, eqBoth, eq, isZero, signExtend, byte, mload}
 
 -- CALL and its kin, MSTORE8, BYTE, MLOAD: an argument, or none
 module _ (x : Step) (r : Plan) where
@@ -58,7 +60,7 @@ module _ (x : Step) (r : Plan) where
   unfolding byte
   byte-none e n = e ∙ on-none (x .second .label) _ nothing n
 
-  pub byte-arg : (v : Val) → x .second .label ≡ Arg v → r ≡ one (nameAs v (code.fixedBytes + 32) byByte) → r ≡ byte x
+  pub byte-arg : (v : Val) → x .second .label ≡ Arg v → r ≡ oneOperation (nameAs v (code.fixedBytes + 32) byByte) → r ≡ byte x
   unfolding byte
   byte-arg v q e = e ∙ on-arg (x .second .label) _ nothing v q
 
@@ -75,12 +77,12 @@ module _ (v : Val) (t confidence : ℕ) (r : Plan) where
   pub name-none : r ≡ nothing → t ≡ code.noName → r ≡ nameIf v t confidence
   name-none e z = e ∙ simp (eq-eqb t code.noName z)
 
-  pub name-some : r ≡ one (nameAs v t confidence) → (t ≡ code.noName → ⊥) → r ≡ nameIf v t confidence
+  pub name-some : r ≡ oneOperation (nameAs v t confidence) → (t ≡ code.noName → ⊥) → r ≡ nameIf v t confidence
   name-some e z = e ∙ simp (ne-eqb t code.noName z)
 
 -- SDIV and SMOD, AND: what was chosen, or neither
 module _ (x : Step) (r : Plan) (k : Choice) where
-  module _ (e : k ≡ choose isAny (x .first) (x .second)) where
+  module _ (e : k ≡ choose pattern.Any (x .first) (x .second)) where
     pub signed-none : r ≡ nothing → k ≡ Neither → r ≡ signed x
     unfolding signed
     signed-none h q = h ∙ ap signedFirst (sym q ∙ e)
@@ -89,7 +91,7 @@ module _ (x : Step) (r : Plan) (k : Choice) where
     unfolding signed
     signed-chosen v own other q h = h ∙ ap signedFirst (sym q ∙ e)
 
-  module _ (e : k ≡ choose isPlain (x .first) (x .second)) where
+  module _ (e : k ≡ choose pattern.NoMask (x .first) (x .second)) where
     pub and-none : r ≡ nothing → k ≡ Neither → r ≡ and x
     unfolding and
     and-none h q = h ∙ ap andFirst (sym q ∙ e)
@@ -101,12 +103,12 @@ module _ (x : Step) (r : Plan) (k : Choice) where
 
 -- an argument under a mask
 module _ (v : Val) (mask : U256) (t : ℕ) (r : Plan) where
-  pub mask-none : r ≡ one (mark v) → t ≡ code.noName → r ≡ masked v mask t
+  pub mask-none : r ≡ oneOperation (mark v) → t ≡ code.noName → r ≡ masked v mask t
   mask-none e z = e ∙ simp (eq-eqb t code.noName z)
 
-  pub mask-some : (l : Label) → l ≡ withMask v mask → r ≡ withStack (two (mark v) (nameAs v t byAndOrIsZero)) (stack.Label l) → (t ≡ code.noName → ⊥)
+  pub mask-some : (l : Label) → l ≡ withMask v mask → r ≡ withStack (twoOperations (mark v) (nameAs v t byAndOrIsZero)) (stack.Label l) → (t ≡ code.noName → ⊥)
       → r ≡ masked v mask t
-  mask-some l q e z = e ∙ ap (λ (m : Label). withStack (two (mark v) (nameAs v t byAndOrIsZero)) (stack.Label m)) q ∙ simp (ne-eqb t code.noName z)
+  mask-some l q e z = e ∙ ap (λ (m : Label). withStack (twoOperations (mark v) (nameAs v t byAndOrIsZero)) (stack.Label m)) q ∙ simp (ne-eqb t code.noName z)
 
 -- EQ with a masked argument: no mask, another argument, or a mask's name
 module _ (v w : Val) (mask : Mask) (r : Plan) where
@@ -127,16 +129,16 @@ module _ (v w : Val) (mask : Mask) (r : Plan) where
 module _ (v w : Val) (r : Plan) (a : Bool) (ea : a ≡ isUnmasked (v .«and_mask»)) where
   pub first-plain : a ≡ true → r ≡ eqMasked v w (w .«and_mask») → r ≡ eqBoth v w
   unfolding eqBoth
-  first-plain f h = h ∙ simp (← plain-is v a ea, f)
+  first-plain f h = h ∙ simp (← ea, f)
 
   module _ (f : a ≡ false) (b : Bool) (eb : b ≡ isUnmasked (w .«and_mask»)) where
     pub second-plain : b ≡ true → r ≡ eqMasked w v (v .«and_mask») → r ≡ eqBoth v w
     unfolding eqBoth
-    second-plain g h = h ∙ simp (← plain-is v a ea, f, ← plain-is w b eb, g)
+    second-plain g h = h ∙ simp (← ea, f, ← eb, g)
 
     pub both-masked : b ≡ false → r ≡ nothing → r ≡ eqBoth v w
     unfolding eqBoth
-    both-masked g h = h ∙ simp (← plain-is v a ea, f, ← plain-is w b eb, g)
+    both-masked g h = h ∙ simp (← ea, f, ← eb, g)
 
 module _ (x : Step) (r : Plan) where
   pub eq-none : r ≡ nothing → NoArg (x .first .label) → r ≡ eq x
@@ -195,7 +197,7 @@ module _ (bytes : List ℕ) (x : Step) (r : Plan) where
     unfolding isZero
     zero-division h f = h ∙ simp (e, ← eb, f)
 
-    pub zero-twice : r ≡ one (nameAs v code.bool byAndOrIsZero) → b ≡ false → r ≡ isZero bytes x
+    pub zero-twice : r ≡ oneOperation (nameAs v code.bool byAndOrIsZero) → b ≡ false → r ≡ isZero bytes x
     unfolding isZero
     zero-twice h f = h ∙ simp (e, ← eb, f)
 
@@ -210,7 +212,7 @@ module _ (x : Step) (r : Plan) where
 
   module _ (v : Val) (e : x .second .label ≡ Arg v) (kept : Kept) (ek : kept ≡ keptOf (valueOf (x .first .word))) where
     abbrev extended : ℕ → Bool → Plan
-    extended m b = cond b (one (nameAs v (code.int + (m + 1) * 8) byTheRest)) nothing
+    extended m b = cond b (oneOperation (nameAs v (code.int + (m + 1) * 8) byTheRest)) nothing
 
     sign-by : (b : Bool) → ltb (valueOf (x .first .word)) wordBytes ≡ b → extended (valueOf (x .first .word)) b ≡ signExtend x
     unfolding signExtend
@@ -223,7 +225,7 @@ module _ (x : Step) (r : Plan) where
       pub sign-past : r ≡ nothing → wordBytes ≤ k → r ≡ signExtend x
       sign-past h l = h ∙ sign-by false (le-ltb _ wordBytes (subst (λ (m : ℕ). wordBytes ≤ m) (is-kept _ kept ek k q) l))
 
-      pub sign-named : r ≡ one (nameAs v (code.int + (k + 1) * 8) byTheRest) → k < wordBytes → r ≡ signExtend x
+      pub sign-named : r ≡ oneOperation (nameAs v (code.int + (k + 1) * 8) byTheRest) → k < wordBytes → r ≡ signExtend x
       sign-named h l =
           let same = is-kept _ kept ek k q in
           h ∙ ap (λ (m : ℕ). extended m true) same ∙ sign-by true (lt-ltb _ wordBytes (subst (λ (m : ℕ). m < wordBytes) same l))

@@ -1,4 +1,4 @@
--- The plan of a step: the range rule's, or its arm's. Assumes nothing.
+-- The plan of a step: the range rule's, or its arm's.
 use Prim.Native.Nat.{ℕ}
 use mathlib.Core.Path.{_≡_, ap, _∙_}
 use mathlib.Core.Bool.{Bool, true, false, not, _&&_}

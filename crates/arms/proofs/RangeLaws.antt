@@ -1,4 +1,4 @@
--- Which comparisons name a range, and what that does. Assumes nothing.
+-- Which comparisons name a range, and what that does.
 use Prim.Native.Nat.{ℕ, _+_}
 use mathlib.Core.Path.{_≡_, refl, sym, ap, _∙_}
 use mathlib.Core.Bool.{Bool, true, false, not, _&&_, _||_}
@@ -27,8 +27,8 @@ use Rattle.analyze.specs.declared.Comparison.{Comparison}
 use Rattle.analyze.specs.declared.Comparison.the-variants.{Of, Nothing}
 use Rattle.operations.specs.declared.Operation.the-variants.{InsertNotBool}
 use Rattle.analyze.specs.declared.Plan.{Plan}
-use Rattle.analyze.specs.Plan.{nothing, two, nameAs}
-use Rattle.analyze.specs.Phases.{ranges, comparisonOf, rangesBy, rangeRule, rangedBy, rangePlan}
+use Rattle.analyze.specs.Plan.{nothing, twoOperations, nameAs}
+use Rattle.analyze.specs.Phases.{namesRange, comparisonOf, onComparison, rangeRule, nameRange, rangePlan}
 
 pub labelled : (l : Label) → OneOf (1 ∷ 2 ∷ 3 ∷ []) (tagOf the-type l) → false ≡ isUnlabelled l
 labelled Unlabelled h =
@@ -83,28 +83,28 @@ placed true false q e = ap not e
 placed false p q e = ap not e
 
 module _ (bytes : List ℕ) (pc : ℕ) (v : Val) (bound : U256) (less : Bool) where
-  pub added : (v .«add_val» ≡ 0 → ⊥) → false ≡ ranges bytes pc v bound less
-  unfolding ranges
+  pub added : (v .«add_val» ≡ 0 → ⊥) → false ≡ namesRange bytes pc v bound less
+  unfolding namesRange
   added h = simp (ne-eqb (v .«add_val») 0 h)
 
   module _ (h : v .«add_val» ≡ 0) (u : Bool) (eu : u ≡ isUnmasked (v .«and_mask»)) where
-    pub masked : not u ≡ true → false ≡ ranges bytes pc v bound less
-    unfolding ranges
+    pub masked : not u ≡ true → false ≡ namesRange bytes pc v bound less
+    unfolding namesRange
     masked f = simp (eq-eqb (v .«add_val») 0 h, ← eu, not-true u f)
 
     module _ (f : not u ≡ false) where
-      pub lengths : (eqb (v .offset) 0 && not (eqb (v .path) 1)) ≡ true → false ≡ ranges bytes pc v bound less
-      unfolding ranges
+      pub lengths : (eqb (v .offset) 0 && not (eqb (v .path) 1)) ≡ true → false ≡ namesRange bytes pc v bound less
+      unfolding namesRange
       lengths g = simp (eq-eqb (v .«add_val») 0 h, ← eu, not-false u f, placed (eqb (v .offset) 0) (eqb (v .path) 1) true g)
 
       module _ (g : (eqb (v .offset) 0 && not (eqb (v .path) 1)) ≡ false) (r : Bool) (er : r ≡ isRangeBound (valueOf bound) less) where
-        pub out-of-range : not r ≡ true → false ≡ ranges bytes pc v bound less
-        unfolding ranges
+        pub out-of-range : not r ≡ true → false ≡ namesRange bytes pc v bound less
+        unfolding namesRange
         out-of-range k =
             simp (eq-eqb (v .«add_val») 0 h, ← eu, not-false u f, placed (eqb (v .offset) 0) (eqb (v .path) 1) false g, ← er, not-true r k)
 
-        pub in-range : not r ≡ false → (e : Bool) → e ≡ isEmptyRevertGuard bytes pc less → e ≡ ranges bytes pc v bound less
-        unfolding ranges
+        pub in-range : not r ≡ false → (e : Bool) → e ≡ isEmptyRevertGuard bytes pc less → e ≡ namesRange bytes pc v bound less
+        unfolding namesRange
         in-range k e ee =
             simp (eq-eqb (v .«add_val») 0 h, ← eu, not-false u f, placed (eqb (v .offset) 0) (eqb (v .path) 1) false g, ← er, not-false r k, ee)
 
@@ -128,16 +128,19 @@ module _ (active : Bool) (bytes : List ℕ) (x : Step) where
     rule-other g = simp (not-false active f, neither (eqb (x .op) LT) (eqb (x .op) GT) g)
 
     module _ (g : (not (eqb (x .op) LT) && not (eqb (x .op) GT)) ≡ false) (k : Comparison) (ek : k ≡ comparisonOf x) where
-      rule-by : (j : Comparison) → k ≡ j → rangesBy bytes (x .pc) j ≡ rangeRule active bytes x
+      abbrev named : Comparison → Bool
+      named j = onComparison j (namesRange bytes (x .pc)) false
+
+      rule-by : (j : Comparison) → k ≡ j → named j ≡ rangeRule active bytes x
       unfolding rangeRule
       rule-by j q =
-          ap (rangesBy bytes (x .pc)) (sym q ∙ ek)
-          ∙ (λ i. sym (not-false active f) i && sym (either (eqb (x .op) LT) (eqb (x .op) GT) g) i && rangesBy bytes (x .pc) (comparisonOf x))
+          ap named (sym q ∙ ek)
+          ∙ (λ i. sym (not-false active f) i && sym (either (eqb (x .op) LT) (eqb (x .op) GT) g) i && named (comparisonOf x))
 
       pub rule-none : k ≡ Nothing → false ≡ rangeRule active bytes x
       rule-none q = rule-by Nothing q
 
-      pub rule-ranges : (v : Val) (bound : U256) (less r : Bool) → k ≡ Of v bound less → r ≡ ranges bytes (x .pc) v bound less →
+      pub rule-ranges : (v : Val) (bound : U256) (less r : Bool) → k ≡ Of v bound less → r ≡ namesRange bytes (x .pc) v bound less →
           r ≡ rangeRule active bytes x
       rule-ranges v bound less r q er = er ∙ rule-by (Of v bound less) q
 
@@ -145,9 +148,9 @@ module _ (active : Bool) (bytes : List ℕ) (x : Step) where
 module _ (x : Step) (r : Plan) (k : Comparison) (ek : k ≡ comparisonOf x) where
   pub range-none : r ≡ nothing → k ≡ Nothing → r ≡ rangePlan x
   unfolding rangePlan
-  range-none h q = h ∙ ap rangedBy (sym q ∙ ek)
+  range-none h q = h ∙ ap (λ (j : Comparison). onComparison j nameRange nothing) (sym q ∙ ek)
 
   pub range-some : (v : Val) (bound : U256) (less : Bool) → k ≡ Of v bound less
-      → r ≡ two (nameAs v (code.uint + 8) byRange) (InsertNotBool (v .path) (v .offset)) → r ≡ rangePlan x
+      → r ≡ twoOperations (nameAs v (code.uint + 8) byRange) (InsertNotBool (v .path) (v .offset)) → r ≡ rangePlan x
   unfolding rangePlan
-  range-some v bound less q h = h ∙ ap rangedBy (sym q ∙ ek)
+  range-some v bound less q h = h ∙ ap (λ (j : Comparison). onComparison j nameRange nothing) (sym q ∙ ek)

@@ -1,4 +1,4 @@
--- The names of shifts by a width. Assumes nothing.
+-- The names of shifts by a width.
 use Prim.Native.Nat.{ℕ, _+_, _%_, _^_, _≤_, _<_}
 use mathlib.Core.Path.{_≡_, ap, _∙_}
 use mathlib.Core.Bool.{and-false}

@@ -1,4 +1,4 @@
--- What ADD plans, by what its labels say. Assumes nothing.
+-- What ADD plans, by what its labels say.
 use Prim.Native.Nat.{ℕ, _+_, _-_, _^_, _≤_, _<_}
 use mathlib.Core.Path.{_≡_, sym, ap, _∙_}
 use mathlib.Core.Bool.{Bool, true, false, cond, not, _&&_}
@@ -21,13 +21,14 @@ use Rattle.labels.specs.declared.Element.{Element}
 use Rattle.labels.specs.declared.Step.{Step}
 use Rattle.labels.specs.declared.Choice.{Choice}
 use Rattle.labels.specs.declared.Choice.the-variants.{Chosen, Neither}
-use Rattle.labels.specs.Operands.{isAny, choose, isLength}
+use Rattle.labels.specs.declared.Pattern.the-variants as pattern
+use Rattle.labels.specs.Operands.{choose, isLength}
 use Rattle.labels.proofs.Choosing.{NoArg, on-arg, on-none}
 use Rattle.operations.specs.declared.Operation.the-variants.{Nothing}
 use Rattle.analyze.specs.declared.OnStack.{OnStack}
 use Rattle.analyze.specs.declared.OnStack.the-variants as stack
 use Rattle.analyze.specs.declared.Plan.{Plan}
-use Rattle.analyze.specs.Plan.{nothing, two, withStack, mark}
+use Rattle.analyze.specs.Plan.{nothing, twoOperations, withStack, mark}
 use Rattle.analyze.specs.Sum.{withAdded, winner, keptLabel, addBoth, isLessOne, zeroBeside, addConstant, addOne, add}
 
 module _ (v : Val) (k : Kept) where
@@ -60,10 +61,10 @@ unfolding isLessOne
 less-one-is v own other a z m ea ez em i = ea i && not (eqb (v .path) 1) && ez i && em i
 
 pub both-added : (s : List Node) (f g top : Val) (k : Kept) (w : OnStack) (r : Plan) → top ≡ winner s f g → k ≡ keptOf (f .«add_val» + g .«add_val»)
-    → w ≡ keptLabel top k → r ≡ withStack (two (mark f) (mark g)) w → r ≡ addBoth s f g
+    → w ≡ keptLabel top k → r ≡ withStack (twoOperations (mark f) (mark g)) w → r ≡ addBoth s f g
 unfolding addBoth
 both-added s f g top k w r et ek ew h =
-    h ∙ ap (withStack (two (mark f) (mark g))) (ew ∙ (λ i. keptLabel (et i) (ek i)))
+    h ∙ ap (withStack (twoOperations (mark f) (mark g))) (ew ∙ (λ i. keptLabel (et i) (ek i)))
 
 module _ (v : Val) (own other : U256) (k : Kept) (ek : k ≡ keptOf (sumOf (valueOf other) (v .«add_val»))) (b : Bool) (eb : b ≡ isLessOne v own other)
     (w : OnStack) where
@@ -80,19 +81,19 @@ module _ (k : Choice) (r : Plan) where
   one-none h q = h ∙ ap addOne (sym q)
 
   pub one-chosen : (v : Val) (own : U256) (other : Element) → k ≡ Chosen v own other → (w : OnStack) → w ≡ addConstant v own (other .word)
-      → r ≡ withStack (two (mark v) Nothing) w → r ≡ addOne k
-  one-chosen v own other q w ew h = h ∙ ap (withStack (two (mark v) Nothing)) ew ∙ ap addOne (sym q)
+      → r ≡ withStack (twoOperations (mark v) Nothing) w → r ≡ addOne k
+  one-chosen v own other q w ew h = h ∙ ap (withStack (twoOperations (mark v) Nothing)) ew ∙ ap addOne (sym q)
 
 module _ (s : List Node) (x : Step) (r : Plan) where
   abbrev lone : Plan
-  lone = addOne (choose isAny (x .first) (x .second))
+  lone = addOne (choose pattern.Any (x .first) (x .second))
 
-  pub add-second : (k : Choice) → k ≡ choose isAny (x .first) (x .second) → r ≡ addOne k → NoArg (x .first .label) → r ≡ add s x
+  pub add-second : (k : Choice) → k ≡ choose pattern.Any (x .first) (x .second) → r ≡ addOne k → NoArg (x .first .label) → r ≡ add s x
   unfolding add
   add-second k ek h n = h ∙ ap addOne ek ∙ on-none (x .first .label) _ lone n
 
   module _ (f : Val) (e : x .first .label ≡ Arg f) where
-    pub add-first : (k : Choice) → k ≡ choose isAny (x .first) (x .second) → r ≡ addOne k → NoArg (x .second .label) → r ≡ add s x
+    pub add-first : (k : Choice) → k ≡ choose pattern.Any (x .first) (x .second) → r ≡ addOne k → NoArg (x .second .label) → r ≡ add s x
     unfolding add
     add-first k ek h n = h ∙ ap addOne ek ∙ on-none (x .second .label) (λ g. addBoth s f g) lone n ∙ on-arg (x .first .label) _ lone f e
 

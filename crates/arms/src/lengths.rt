@@ -5,15 +5,17 @@ ghost use Rattle.limits.specs.Limits.{wordBytes, arrayCountMax};
 ghost use Rattle.word.specs.Value.{valueOf};
 ghost use Rattle.facts.specs.State.{nodes};
 ghost use Rattle.operations.specs.Asks.{IsUsed};
-ghost use Rattle.analyze.specs.Length.{markLength, namePath, withOnes, multiplied, multiply, unlessRange, markFirst, mul};
-ghost use Rattle.analyze.specs.Length.{bytesShift, bytesNamed, shlOf, shl, comparesLength, lengthCompared, compareWith, compare};
+ghost use Rattle.analyze.specs.Length.{markLength, namePath, withOnes, multiplied, multiply, unlessRange, markFirst};
+ghost use Rattle.analyze.specs.Length.{mul};
+ghost use Rattle.analyze.specs.Length.{bytesShift, bytesNamed, shlOf, shl, comparesLength, lengthCompared, compareWith};
+ghost use Rattle.analyze.specs.Length.{compare};
 ghost use Rattle.analyze.specs.Ready.{Ready, LabelReaches, ChoiceReaches, StepReaches};
 ghost use Rattle.word.specs.Multiplier.{multiplierOf};
 use crate::plans::and_stack;
 use crate::plans::mark_and_name;
 use crate::plans::nothing;
-use crate::plans::one;
-use crate::plans::three;
+use crate::plans::one_operation;
+use crate::plans::three_operations;
 use analyze::InMemory;
 use analyze::OnStack;
 use analyze::Plan;
@@ -22,12 +24,12 @@ use code::guard_failure_pc;
 use facts::field;
 use labels::Choice;
 use labels::Label;
+use labels::Pattern;
 use labels::Step;
 use labels::Val;
-use labels::choose_any;
-use labels::choose_length;
+use labels::choose;
 use labels::is_length;
-use labels::is_plain_length;
+use labels::is_unmasked_length;
 use limits::WORD_BYTES;
 use limits::codes::BYTES;
 use limits::codes::FIXED_BYTES;
@@ -52,9 +54,9 @@ fn mark_length(path: u32, other: Label, more: Operation) -> Plan
     ensures { λ r. ⌜ r ≡ markLength path other more ⌝ }
 {
     let Label::Arg(w) = other else {
-        return three(Operation::MarkNotBool(path, 0), Operation::Nothing, more);
+        return three_operations(Operation::MarkNotBool(path, 0), Operation::Nothing, more);
     };
-    three(
+    three_operations(
         Operation::MarkNotBool(path, 0),
         Operation::MarkNotBool(w.path, w.offset),
         more,
@@ -140,7 +142,7 @@ fn unless_range(table: &[u32], n: u32, used: u32, val: Val) -> Plan
     if has_range_hint(table, n, used, val.path, val.offset) {
         return nothing();
     }
-    one(Operation::MarkNotBool(val.path, val.offset))
+    one_operation(Operation::MarkNotBool(val.path, val.offset))
 }
 
 // The general arm of LT, GT and MUL.
@@ -160,9 +162,9 @@ pub fn mul(table: &[u32], n: u32, used: u32, step: Step) -> Plan
 {
     let first = step.first;
     let second = step.second;
-    let length = choose_length(first, second);
+    let length = choose(Pattern::Length, first, second);
     let Choice::Chosen(val, _, other) = length else {
-        let any = choose_any(first, second);
+        let any = choose(Pattern::Any, first, second);
         return mark_first(table, n, used, any);
     };
     let label = other.label;
@@ -200,7 +202,7 @@ fn bytes_named(val: Val, bytes: u32) -> Plan
     ensures { λ r. ⌜ r ≡ bytesNamed val bytes ⌝ }
 {
     if bytes == 0 {
-        return one(Operation::MarkNotBool(val.path, val.offset));
+        return one_operation(Operation::MarkNotBool(val.path, val.offset));
     }
     mark_and_name(val, FIXED_BYTES + bytes, BY_THE_REST)
 }
@@ -240,7 +242,7 @@ fn length_compared(path: u32, bound: U256) -> Plan
     if compares_length(bound) {
         return and_stack(marked, Operation::Nothing, OnStack::Word(1));
     }
-    one(marked)
+    one_operation(marked)
 }
 
 // The length arm for that operand and bound, else the general arm.
@@ -258,7 +260,7 @@ fn compare_with(
     let Label::Arg(val) = label else {
         return mark_first(table, n, used, general);
     };
-    if is_plain_length(val) {
+    if is_unmasked_length(val) {
         return length_compared(val.path, bound);
     }
     mark_first(table, n, used, general)
@@ -271,7 +273,7 @@ pub fn compare(table: &[u32], n: u32, used: u32, step: Step) -> Plan
 {
     let first = step.first;
     let second = step.second;
-    let general = choose_any(first, second);
+    let general = choose(Pattern::Any, first, second);
     let first_label = first.label;
     let second_label = second.label;
     if step.op == LT {

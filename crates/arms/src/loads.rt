@@ -4,8 +4,9 @@ ghost use mathlib.Core.Bool.{true};
 ghost use Rattle.word.specs.Value.{valueOf};
 ghost use Rattle.facts.specs.State.{nodes};
 ghost use Rattle.operations.specs.Asks.{IsUsed};
-ghost use Rattle.analyze.specs.Plan.{plainArg};
-ghost use Rattle.analyze.specs.Load.{isWholeWord, newOffset, nameCopied, followed, labelledLoad, found, unlabelledLoad, load};
+ghost use Rattle.analyze.specs.Plan.{loadedArg};
+ghost use Rattle.analyze.specs.Load.{isWholeWord, newOffset, nameCopied, followed, labelledLoad, found, unlabelledLoad};
+ghost use Rattle.analyze.specs.Load.{load};
 ghost use Rattle.analyze.specs.Ready.{Ready, StepReaches};
 use crate::plans::and_memory;
 use crate::plans::and_stack;
@@ -30,8 +31,8 @@ use word::U256;
 use word::sum::keep;
 
 // The label of an argument, nothing added and no mask.
-fn plain_arg(offset: u32, path: u32) -> Label
-    ensures { λ r. ⌜ r ≡ plainArg offset path ⌝ }
+fn loaded_arg(offset: u32, path: u32) -> Label
+    ensures { λ r. ⌜ r ≡ loadedArg offset path ⌝ }
 {
     Label::Arg(Val {
         offset,
@@ -110,7 +111,7 @@ fn found(step: Step, key: u32) -> Plan
     ensures { λ r. ⌜ r ≡ found step key ⌝ }
 {
     let known = Operation::GetOrCreate(1, key);
-    let label = plain_arg(key, 1);
+    let label = loaded_arg(key, 1);
     if step.op == CALLDATALOAD {
         return and_stack(known, Operation::Nothing, OnStack::Label(label));
     }

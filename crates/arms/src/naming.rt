@@ -7,7 +7,7 @@ ghost use Rattle.analyze.specs.Name.{eqMasked, eqBoth, eq, zeroTested, isZero, 
 use crate::plans::and_stack;
 use crate::plans::mark_and_name;
 use crate::plans::nothing;
-use crate::plans::one;
+use crate::plans::one_operation;
 use analyze::OnStack;
 use analyze::Plan;
 use code::Place;
@@ -16,10 +16,10 @@ use code::is_division_check;
 use labels::Choice;
 use labels::Label;
 use labels::Mask;
+use labels::Pattern;
 use labels::Step;
 use labels::Val;
-use labels::choose_any;
-use labels::choose_plain;
+use labels::choose;
 use labels::is_unmasked;
 use labels::same_arg;
 use limits::ADDRESS_BITS;
@@ -98,7 +98,7 @@ fn name_if(val: Val, name: u32, confidence: u32) -> Plan
     if name == NO_NAME {
         return nothing();
     }
-    one(Operation::SetTname(val.path, val.offset, name, confidence))
+    one_operation(Operation::SetTname(val.path, val.offset, name, confidence))
 }
 
 // SHR before a guard: Vyper validates narrow scalars by rejecting non-zero high bits.
@@ -127,7 +127,7 @@ pub fn signed(step: Step) -> Plan
 {
     let first = step.first;
     let second = step.second;
-    let choice = choose_any(first, second);
+    let choice = choose(Pattern::Any, first, second);
     let Choice::Chosen(val, _, _) = choice else {
         return nothing();
     };
@@ -151,7 +151,7 @@ fn masked(val: Val, mask: U256, name: u32) -> Plan
     ensures { λ r. ⌜ r ≡ masked val mask name ⌝ }
 {
     if name == NO_NAME {
-        return one(Operation::MarkNotBool(val.path, val.offset));
+        return one_operation(Operation::MarkNotBool(val.path, val.offset));
     }
     and_stack(
         Operation::MarkNotBool(val.path, val.offset),
@@ -165,7 +165,7 @@ pub fn and(step: Step) -> Plan
 {
     let first = step.first;
     let second = step.second;
-    let choice = choose_plain(first, second);
+    let choice = choose(Pattern::NoMask, first, second);
     let Choice::Chosen(val, _, other) = choice else {
         return nothing();
     };
@@ -241,7 +241,7 @@ pub fn is_zero(code: &[u8], step: Step) -> Plan
             if is_division_check(code, step.pc) {
                 nothing()
             } else {
-                one(Operation::SetTname(val.path, val.offset, BOOL, BY_AND_OR_ISZERO))
+                one_operation(Operation::SetTname(val.path, val.offset, BOOL, BY_AND_OR_ISZERO))
             }
         }
         Label::Unlabelled => nothing(),
@@ -266,7 +266,7 @@ pub fn sign_extend(step: Step) -> Plan
     if WORD_BYTES <= k {
         return nothing();
     }
-    one(Operation::SetTname(val.path, val.offset, INT + (k + 1) * 8, BY_THE_REST))
+    one_operation(Operation::SetTname(val.path, val.offset, INT + (k + 1) * 8, BY_THE_REST))
 }
 
 // BYTE: fixed bytes of a whole word.
@@ -278,7 +278,7 @@ pub fn byte(step: Step) -> Plan
     let Label::Arg(val) = label else {
         return nothing();
     };
-    one(Operation::SetTname(val.path, val.offset, FIXED_BYTES + 32, BY_BYTE))
+    one_operation(Operation::SetTname(val.path, val.offset, FIXED_BYTES + 32, BY_BYTE))
 }
 
 // MLOAD of a word that is an argument.

@@ -1,14 +1,15 @@
 // Plans put together.
 ghost use mathlib.Core.Path.{_≡_};
-ghost use Rattle.analyze.specs.Plan.{nothing, one, two, three, withStack, withMemory, markAndName};
+ghost use Rattle.analyze.specs.Plan.{nothing, oneOperation, twoOperations, threeOperations, withStack, withMemory};
+ghost use Rattle.analyze.specs.Plan.{markAndName};
 use analyze::InMemory;
 use analyze::OnStack;
 use analyze::Plan;
 use labels::Val;
 use operations::Operation;
 
-pub fn three(first: Operation, second: Operation, third: Operation) -> Plan
-    ensures { λ r. ⌜ r ≡ three first second third ⌝ }
+pub fn three_operations(first: Operation, second: Operation, third: Operation) -> Plan
+    ensures { λ r. ⌜ r ≡ threeOperations first second third ⌝ }
 {
     Plan {
         first,
@@ -19,27 +20,27 @@ pub fn three(first: Operation, second: Operation, third: Operation) -> Plan
     }
 }
 
-pub fn two(first: Operation, second: Operation) -> Plan
-    ensures { λ r. ⌜ r ≡ two first second ⌝ }
+pub fn two_operations(first: Operation, second: Operation) -> Plan
+    ensures { λ r. ⌜ r ≡ twoOperations first second ⌝ }
 {
-    three(first, second, Operation::Nothing)
+    three_operations(first, second, Operation::Nothing)
 }
 
-pub fn one(first: Operation) -> Plan
-    ensures { λ r. ⌜ r ≡ one first ⌝ }
+pub fn one_operation(first: Operation) -> Plan
+    ensures { λ r. ⌜ r ≡ oneOperation first ⌝ }
 {
-    three(first, Operation::Nothing, Operation::Nothing)
+    three_operations(first, Operation::Nothing, Operation::Nothing)
 }
 
 pub fn nothing() -> Plan
     ensures { λ r. ⌜ r ≡ nothing ⌝ }
 {
-    three(Operation::Nothing, Operation::Nothing, Operation::Nothing)
+    three_operations(Operation::Nothing, Operation::Nothing, Operation::Nothing)
 }
 
 // Two operations, and what is written to the stack.
 pub fn and_stack(first: Operation, second: Operation, stack: OnStack) -> Plan
-    ensures { λ r. ⌜ r ≡ withStack (two first second) stack ⌝ }
+    ensures { λ r. ⌜ r ≡ withStack (twoOperations first second) stack ⌝ }
 {
     Plan {
         first,
@@ -52,7 +53,7 @@ pub fn and_stack(first: Operation, second: Operation, stack: OnStack) -> Plan
 
 // Two operations, and what is written to the memory.
 pub fn and_memory(first: Operation, second: Operation, memory: InMemory) -> Plan
-    ensures { λ r. ⌜ r ≡ withMemory (two first second) memory ⌝ }
+    ensures { λ r. ⌜ r ≡ withMemory (twoOperations first second) memory ⌝ }
 {
     Plan {
         first,
@@ -67,7 +68,7 @@ pub fn and_memory(first: Operation, second: Operation, memory: InMemory) -> Plan
 pub fn mark_and_name(val: Val, name: u32, confidence: u32) -> Plan
     ensures { λ r. ⌜ r ≡ markAndName val name confidence ⌝ }
 {
-    two(
+    two_operations(
         Operation::MarkNotBool(val.path, val.offset),
         Operation::SetTname(val.path, val.offset, name, confidence),
     )

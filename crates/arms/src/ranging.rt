@@ -1,9 +1,9 @@
 // The second phase: the range rule.
 ghost use mathlib.Core.Path.{_≡_};
 ghost use Rattle.labels.specs.Operands.{isUnlabelled};
-ghost use Rattle.analyze.specs.Phases.{ranges, comparisonOf, rangeRule, rangePlan};
+ghost use Rattle.analyze.specs.Phases.{namesRange, comparisonOf, rangeRule, rangePlan};
 use crate::plans::nothing;
-use crate::plans::two;
+use crate::plans::two_operations;
 use analyze::Comparison;
 use analyze::Plan;
 use code::is_empty_revert_guard;
@@ -57,7 +57,7 @@ fn comparison(step: Step) -> Comparison
 // Does the comparison name a range? Slot zero of a dynamic path may be its length: bounds on that describe the
 // container, not a scalar argument.
 fn names_range(code: &[u8], pc: u32, val: Val, bound: U256, less_than: bool) -> bool
-    ensures { λ r. ⌜ r ≡ ranges (now (code .entry)) pc val bound «less_than» ⌝ }
+    ensures { λ r. ⌜ r ≡ namesRange (now (code .entry)) pc val bound «less_than» ⌝ }
 {
     let mask = val.and_mask;
     if val.add_val != 0 {
@@ -93,8 +93,7 @@ pub fn range_rule(active: bool, code: &[u8], step: Step) -> bool
 }
 
 // What it does: Solidity validates enums this way, including two-member ones, and validates bools differently, so a
-// bound of 1 is uint8 as well. The mark is set
-// directly: `mark_not_bool` would drop the new name.
+// bound of 1 is uint8 as well. The mark is set directly: `mark_not_bool` would drop the new name.
 pub fn range_plan(step: Step) -> Plan
     ensures { λ r. ⌜ r ≡ rangePlan step ⌝ }
 {
@@ -102,7 +101,7 @@ pub fn range_plan(step: Step) -> Plan
     let Comparison::Of(val, _, _) = compared else {
         return nothing();
     };
-    two(
+    two_operations(
         Operation::SetTname(val.path, val.offset, UINT + 8, BY_RANGE),
         Operation::InsertNotBool(val.path, val.offset),
     )

@@ -1,4 +1,4 @@
--- The children of a path in a state: higher numbers, with that parent. Assumes nothing.
+-- The children of a path in a state: higher numbers, with that parent.
 use Prim.Native.Nat.{ℕ, _≤_, _<_}
 use mathlib.Core.Path.{_≡_, sym, ap, _∙_, subst}
 use mathlib.Core.List.{List}

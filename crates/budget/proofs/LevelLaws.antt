@@ -1,6 +1,5 @@
 -- The sum and the depth at a path and below it, one level down: a child has a higher number, so that more levels than
--- there are numbers tell nothing more. Assumes
--- nothing.
+-- there are numbers tell nothing more.
 use Prim.Native.Nat.{ℕ, zero, suc, _+_, _-_, _≤_, _<_}
 use mathlib.Core.Path.{_≡_, refl, ap}
 use mathlib.Core.Bool.{Bool, cond, not, _&&_, _||_}

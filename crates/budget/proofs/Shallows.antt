@@ -1,5 +1,4 @@
--- From the root the walk comes to each fact at its own depth: it passes exactly if no fact lies too deep. Assumes
--- nothing.
+-- From the root the walk comes to each fact at its own depth: it passes exactly if no fact lies too deep.
 use Prim.Native.Nat.{ℕ, zero, suc, _≤_, _<_}
 use mathlib.Core.Path.{_≡_, refl, sym, ap, _∙_}
 use mathlib.Core.Bool.{Bool, true, false, cond, not, _&&_, _||_, and-eq-true-iff}

@@ -1,4 +1,4 @@
--- From the root the walk comes to each fact once: its sum is the sum over all facts. Assumes nothing.
+-- From the root the walk comes to each fact once: its sum is the sum over all facts.
 use Prim.Native.Nat.{ℕ, zero, suc, _+_, _≤_, _<_}
 use mathlib.Core.Path.{_≡_, refl, sym, ap, _∙_}
 use mathlib.Core.Bool.{Bool, true, false, cond}

@@ -1,4 +1,4 @@
--- Sums over the numbers 1 to n, and the sum over a path's children as one of them. Assumes nothing.
+-- Sums over the numbers 1 to n, and the sum over a path's children as one of them.
 use Prim.Native.Nat.{ℕ, zero, suc, _+_, _≤_, _<_}
 use mathlib.Core.Path.{_≡_, refl, sym, ap, _∙_}
 use mathlib.Core.Bool.{Bool, true, false, cond}

@@ -9,15 +9,15 @@ pub enum Budget {
     Over,
 }
 
-// The answer, and unless the facts are over the root's last word, which the walk comes to anyway.
+// The answer, and the root's last word, which the walk comes to anyway; 0 where the facts are over.
 pub struct Spent {
     pub budget: Budget,
     pub last_word: u32,
 }
 
-// What a record's children leave, as one number: one more than what is left, 0 where they are over; and the key of the
-// last seen one.
+// What a record and all below it leave, as one number: one more than what is left, 0 where they are over; and unless
+// they are over the record's last word.
 pub struct Below {
-    pub left: u64,
-    pub last_key: u32,
+    pub left: u32,
+    pub last_word: u32,
 }

@@ -1,15 +1,16 @@
 // "A node costs one more than its last word": the cost of each seen record is taken off what is left, children first.
-// What is left goes from call to call as one
-// number, one more than what is left, 0 where the facts are over: an enum would go through memory for each record.
+// What is left goes from call to call as one number, one more than what is left, 0 where the facts are over: an enum
+// would go through memory for each record.
 ghost use mathlib.Core.Path.{_≡_};
-ghost use Prim.Native.Nat.{_+_, _-_, _^_, _≤_};
+ghost use Prim.Native.Nat.{_-_, _≤_};
 ghost use Rattle.limits.specs.Limits.{depthMax};
+ghost use Rattle.facts.specs.Table.{seenOf};
 ghost use Rattle.facts.specs.State.{nodes};
 ghost use Rattle.facts.specs.Sound.{Sound};
 ghost use Rattle.list.specs.Seen.{lastWord};
 ghost use Rattle.paths.specs.Shape.{Shaped};
-ghost use Rattle.budget.specs.Answer.{budgetFrom, budgetBelow, budgetOf, Paid};
-ghost use Rattle.budget.specs.declared.Budget.the-variants.{Over};
+ghost use Rattle.budget.specs.Answer.{budgetOf, wordTold};
+ghost use Rattle.budget.specs.Below.{Paid};
 use crate::Below;
 use crate::Budget;
 use crate::Spent;
@@ -22,57 +23,24 @@ use limits::fields::NEXT;
 use limits::fields::SEEN;
 use list::last_word;
 
-// The number as an answer.
-fn answer(x: u64) -> Budget
-    requires { ⌜ x ≤ 2 ^ 32 ⌝ }
-    ensures { λ b. ⌜ b ≡ budgetFrom x ⌝ }
+// One more than a record with this last word leaves of what its children left, 0 where it costs more than that.
+fn own_left(left: u32, last: u32) -> u32
+    ensures { λ x. ⌜ x ≡ left - last ⌝ }
 {
-    if x == 0 {
-        return Budget::Over;
-    }
-    Budget::Left((x - 1) as u32)
-}
-
-// What is left after a record itself, whose children leave so much: "A node costs one more than its last word".
-fn own_left(below: u64, last: u32) -> u64
-    ensures { λ x. ⌜ x ≡ below - (last + 1) ⌝ }
-{
-    if below <= last as u64 {
+    if left <= last {
         return 0;
     }
-    below - last as u64 - 1
+    left - last
 }
 
-// What is left after the record r, which stands at this depth, and all below it. A child's number is higher than its
-// parent's, so that fewer numbers are
-// left above it. The walk ends with the first record that is too deep or costs more than is left.
-fn left_below(table: &[u32], n: u32, used: u32, r: u32, depth: u32, left: u32) -> u64
+// What is left after a seen record, which stands at this depth, and all below it. The walk calls itself for each seen
+// child; one with no child of its own costs its last word and one, which is taken off at once. A child's number is
+// higher than its parent's, so that fewer numbers are left above it. The walk ends with the first record that is too
+// deep or costs more than is left. A child often stands in the chain right behind the one before it: where it does, the
+// walk counts on instead of waiting for the number that it loads.
+fn left_below(table: &[u32], n: u32, used: u32, r: u32, depth: u32, left: u32) -> Below
     requires { ⌜ Shaped (now table) used n ⌝ }
-    requires { ⌜ (1 ≤ r) × (r ≤ used) × (depth ≤ depthMax + 1) ⌝ }
-    ensures { λ x. ⌜ (budgetFrom x ≡ budgetBelow (nodes (now (table .entry)) used) r depth left) × (x ≤ left + 1) ⌝ }
-{
-    if field(table, r, SEEN) != 1 {
-        return left as u64 + 1;
-    }
-    if DEPTH_MAX < depth {
-        return 0;
-    }
-    if field(table, r, CHILD) == 0 {
-        return own_left(left as u64 + 1, last_word(table, n, used, r, 0));
-    }
-    let below = left_of_children(table, n, used, r, depth, left);
-    if below.left == 0 {
-        return 0;
-    }
-    own_left(below.left, last_word(table, n, used, r, below.last_key))
-}
-
-// What the children of a record at a depth that is allowed leave, each by `left_below`. A child often stands in the
-// chain right behind the one before it:
-// where it does, the walk counts on instead of waiting for the number that it loads.
-fn left_of_children(table: &[u32], n: u32, used: u32, r: u32, depth: u32, left: u32) -> Below
-    requires { ⌜ Shaped (now table) used n ⌝ }
-    requires { ⌜ (1 ≤ r) × (r ≤ used) × (depth ≤ depthMax) ⌝ }
+    requires { ⌜ (1 ≤ r) × (r ≤ used) × (depth ≤ depthMax) × (seenOf (now table) r ≡ 1) ⌝ }
     ensures { λ b. ⌜ Paid (nodes (now (table .entry)) used) r depth left b ⌝ }
 {
     let mut rest = left;
@@ -81,15 +49,21 @@ fn left_of_children(table: &[u32], n: u32, used: u32, r: u32, depth: u32, left: 
     while next != 0 {
         let mut c = next;
         loop {
-            let x = left_below(table, n, used, c, depth + 1, rest);
-            if x == 0 {
-                return Below {
-                    left: 0,
-                    last_key: 0,
-                };
-            }
-            rest = (x - 1) as u32;
             if field(table, c, SEEN) == 1 {
+                let x = if depth == DEPTH_MAX {
+                    0
+                } else if field(table, c, CHILD) == 0 {
+                    own_left(rest, last_word(table, n, used, c, 0))
+                } else {
+                    left_below(table, n, used, c, depth + 1, rest).left
+                };
+                if x == 0 {
+                    return Below {
+                        left: 0,
+                        last_word: 0,
+                    };
+                }
+                rest = x - 1;
                 last_key = field(table, c, KEY);
             }
             let follow = c as usize + 1;
@@ -100,9 +74,10 @@ fn left_of_children(table: &[u32], n: u32, used: u32, r: u32, depth: u32, left: 
             c = follow as u32;
         }
     }
+    let last = last_word(table, n, used, r, last_key);
     Below {
-        left: rest as u64 + 1,
-        last_key,
+        left: own_left(rest, last),
+        last_word: last,
     }
 }
 
@@ -110,19 +85,17 @@ fn left_of_children(table: &[u32], n: u32, used: u32, r: u32, depth: u32, left: 
 pub fn fits_type_budget(table: &[u32], n: u32, used: u32) -> Spent
     requires { ⌜ Sound (now table) used n ⌝ }
     ensures { λ s. ⌜ s .budget ≡ budgetOf (nodes (now (table .entry)) used) ⌝ }
-    ensures { λ s. ⌜ ((s .budget ≡ Over → ⊥) → s .«last_word» ≡ lastWord (nodes (now (table .entry)) used) 1) ⌝ }
+    ensures { λ s. ⌜ s .«last_word» ≡ wordTold (s .budget) (lastWord (nodes (now (table .entry)) used) 1) ⌝ }
 {
-    let below = left_of_children(table, n, used, 1, 0, BUDGET_MAX);
+    let below = left_below(table, n, used, 1, 0, BUDGET_MAX);
     if below.left == 0 {
         return Spent {
             budget: Budget::Over,
             last_word: 0,
         };
     }
-    let last = last_word(table, n, used, 1, below.last_key);
-    let budget = answer(own_left(below.left, last));
     Spent {
-        budget,
-        last_word: last,
+        budget: Budget::Left(below.left - 1),
+        last_word: below.last_word,
     }
 }

@@ -1,5 +1,4 @@
--- Demand 3. Its sentences stand in specs/Claims.antt, its terms in specs/Terms.antt, lists of calls in specs/Facts.antt
--- (what the calls alone say) and specs/Run.antt (the calls by their contracts). Assumes nothing.
+-- `demand-3`, the theorem of specs/Demand3.antt.
 use Prim.Native.Nat.{ℕ, zero, suc, _*_, _-_, _≤_, _<_}
 use mathlib.Core.Path.{_≡_, refl, sym, ap, subst, _∙_}
 use mathlib.Core.Bool.{Bool, true, false, true≢false, false≢true, cond, _&&_, and-eq-true-iff}
@@ -9,34 +8,38 @@ use native.Mathlib.Omega.{arith}
 use lib.Dec.{eqb, leb}
 use borrow.Author.Tests.{eqb-true, eqb-false, leb-true, le-leb}
 use Rattle.limits.specs.Limits.{budgetMax, wordBytes, recordsMax}
-use Rattle.limits.specs.Questions.{taken}
+use Rattle.limits.specs.Refusal.{taken}
 use Rattle.types.specs.Tree.{AbiTypes, nil, cons, count, levels, mostLevels}
 use Rattle.facts.specs.Formed.{Formed}
 use Rattle.facts.specs.State.{Node}
 use Rattle.facts.proofs.States.{sound-formed}
-use Rattle.head.specs.Held.{Held, recordsIn, factsIn}
+use Rattle.head.specs.Held.{Held, recordsIn, stateIn, HasRecords, IsSound}
 use Rattle.head.specs.Asked.{FirstNo}
 use Rattle.head.proofs.Asking.{taken-first}
-use Rattle.fresh.specs.Call as fresh-call
-use Rattle.fresh.specs.Call.{opened}
+use Rattle.head.specs.Fresh as fresh-call
+use Rattle.head.specs.Fresh.{opened}
 use Rattle.list.specs.Seen.{childrenIn, isEmpty, lastWord}
 use Rattle.list.specs.Budget.{shallow, spend, fitsBudget}
 use Rattle.list.specs.Types.{listOf}
-use Rattle.sizes.proofs.ListCodes.{list-codes}
-use Rattle.sizes.proofs.ListFormed.{list-formed}
-use Rattle.sizes.proofs.ListLevels.{list-levels}
-use Rattle.sizes.proofs.Granted.{list-count}
-use Rattle.entries.specs.Entry.{entryOf}
+use Rattle.list_theorems.proofs.ListCodes.{list-codes}
+use Rattle.list_theorems.proofs.ListFormed.{list-formed}
+use Rattle.list_theorems.proofs.ListLevels.{list-levels}
+use Rattle.list_theorems.proofs.Granted.{list-count}
+use Rattle.list_theorems.specs.Entry.{entryOf}
 use Rattle.paths.specs.Path.{AgreeAt}
-use Rattle.entries.proofs.EntrySame as entries
+use Rattle.list_theorems.proofs.EntrySame as entries
 use Rattle.closing.specs.Words.{Handed, filled}
-use Rattle.closing.specs.Answer.{Verdict, refused, none, over, granted, isGranted, numberOf, answerOf, typesAfter, withList}
-use Rattle.closing.specs.Call.{testsOf, questions, factsAfter, answerBy, Outcome}
-use Rattle.calls.specs.Facts.{Call, closing, start, known, closingRefusal}
+use Rattle.closing.specs.Answer.{Verdict, refused, none, over, granted, isGranted, answerOf, typesAfter}
+use Rattle.closing.specs.Answer.{withList}
+use Rattle.closing.specs.Call.{testsOf, questions, stateAfter, answerBy, Outcome}
+use Rattle.step.specs.Call as step-call
+use Rattle.calls.specs.Facts.{Call, step, closing, start, known, stepRefusal, closingRefusal}
 use Rattle.calls.specs.Run.{Does, Run, heldOf}
 use Rattle.calls.specs.Terms.{SomeArgument, NoneDeeper, SumFits, WellListed}
-use Rattle.calls.specs.Claims.{FirstOf, JudgedBy, ClosingIn, ClosingJudged, GrantedList}
-use Rattle.calls.proofs.Following.{start-good, closing-judged, run-held, run-there, filled-formed}
+use Rattle.calls.specs.Claims.{FirstOf, StepIn, ClosingIn, closingState, NotRefused, JudgedBy, GrantedList}
+use Rattle.calls.specs.Demand3.{OfLists, Demand3}
+use Rattle.calls.proofs.Following.{Good, start-good, state, admitted, step-answers, closing-judged, run-held}
+use Rattle.calls.proofs.Following.{run-there, filled-formed}
 use Rattle.calls.proofs.TermLaws.{argument-child, child-argument, shallow-deeper, deeper-shallow}
 
 -- which answer it is
@@ -87,14 +90,13 @@ judged-so s v F e = go (isEmpty (childrenIn s 1)) refl (fitsBudget s) refl e
           over-known = ((λ _. (A, no)), λ _. q);
         }
 
--- an answer that is no refusal is the one for the facts after the fill
-not-refused : (n : ℕ) (s : List Node) (v : Verdict) → v ≡ answerBy n s → numberOf v ≡ taken
-    → (n ≡ taken) × (v ≡ answerOf s)
+-- an answer that is no refusal is the one for the state after the fill
+not-refused : (n : ℕ) (s : List Node) (v : Verdict) → v ≡ answerBy n s → NotRefused v → (n ≡ taken) × (v ≡ answerOf s)
 not-refused n s v e z = go (eqb n taken) refl e
   where
     go : (b : Bool) → eqb n taken ≡ b → v ≡ cond b (answerOf s) (refused n) → (n ≡ taken) × (v ≡ answerOf s)
     go true k q = (eqb-true n taken k, q)
-    go false k q = absurd (eqb-false n taken k (sym (ap numberOf q) ∙ z))
+    go false k q = absurd (z n q)
 
 -- a run split at a call
 record Split (t : Held) (before : List Call) (c : Call) (behind : List Call) (t′ : Held) : Type 0 where
@@ -113,7 +115,7 @@ split t (b ∷ before) c behind t′ R =
 
 -- document 01: "A taken fresh call comes first and fixes the record count.": it leaves the head and the table from
 -- which the lists of calls start
-pub fresh-first : (N : ℕ) (t t′ : Held) → fresh-call.Outcome t taken N t′ → FirstOf N t′
+fresh-first : (N : ℕ) (t t′ : Held) → fresh-call.Outcome t taken N t′ → FirstOf N t′
 fresh-first N t t′ O = go (O .asked)
   where
     is : N ≡ recordsIn t
@@ -125,38 +127,6 @@ fresh-first N t t′ O = go (O .asked)
         let some = C .some in
         let most = C .most in
         record { some = omega arith; most = omega arith; leaves = O .leaves ∙ ap opened (sym is) }
-
-module _ (N : ℕ) (N1 : 1 ≤ N) (NM : N ≤ recordsMax) where
-  -- "For every list of steps and closings, refused ones included, from a fresh table, each handed the table and the
-  -- head beside it as the one before left them, and whatever else": the table and the head that they leave are those of
-  -- the facts that follow from the calls alone
-  pub facts-follow : (cs : List Call) (t : Held) → Run (opened N) cs t → t ≡ heldOf N (known N cs)
-  facts-follow cs t R = run-held N N1 NM start (start-good N N1 NM) cs t R .0
-
-  -- and each list of calls runs: no call is without an outcome
-  pub calls-run : (cs : List Call) → Run (opened N) cs (heldOf N (known N cs))
-  calls-run cs = run-there N N1 NM start (start-good N N1 NM) cs
-
-  -- "every closing in it": each closing in a list that ran, whatever stands before and behind it
-  pub closings-in : (before : List Call) (h : Handed) (types : List ℕ) (behind : List Call) (t : Held)
-      → Run (opened N) (before ++ closing h types ∷ behind) t
-      → (answer : Verdict) × (left : Held) × ClosingIn N before h types answer left × Run left behind t
-  closings-in before h types behind t R =
-      let S = split (opened N) before (closing h types) behind t R in
-      let D = S .does in
-      (D .0, S .left, record { handed = S .handed; ran = S .ran; types′ = D .1; outcome = D .2 }, S .rest)
-
-  -- ".. that is not refused, judged by the facts that document 01 works out from the calls alone, its own fill
-  -- included, grants a list exactly when .."; whatever its outcome is
-  pub closings-judged : (before : List Call) (h : Handed) (types : List ℕ) (answer : Verdict) (left : Held)
-      → ClosingIn N before h types answer left → ClosingJudged N before h answer
-  closings-judged before h types answer left I z =
-      let H = run-held N N1 NM start (start-good N N1 NM) before (I .handed) (I .ran) in
-      let P = subst (λ (x : Held). Outcome x types h answer left (I .types′)) (H .0) (I .outcome) in
-      let C = closing-judged N N1 NM (known N before) (H .1) h types answer left (I .types′) P in
-      let A = not-refused (closingRefusal N (known N before) h types) (filled (known N before .facts) h) answer (C .0) z in
-      judged-so (filled (known N before .facts) h) answer (filled-formed (known N before .facts) h (H .1 .formed))
-      (A .1)
 
 -- an entry's levels are among the list's
 entry-most : (ts : AbiTypes) (k : ℕ) → k < count ts → levels (entryOf k ts) ≤ mostLevels ts
@@ -200,16 +170,20 @@ well-listed : (s : List Node) → Formed s → fitsBudget s ≡ true → WellLis
 well-listed s F h = record {
   types = list-formed s F;
   parts = list-codes s F;
-  levels = λ k below.
+  nests = λ k below.
       let a = list-levels s F (and-eq-true-iff (shallow s) (leb (spend s) budgetMax) .0 h .0) in
       let b = entry-most (listOf s) k below in
       omega arith;
 }
 
-module _ (t : Held) (types : List ℕ) (h : Handed) (v : Verdict) (t′ : Held) (types′ : List ℕ)
-    (O : Outcome t types h v t′ types′) (e left head : ℕ) (z : v ≡ granted e left head) where
+-- a granted answer is no refusal
+granted-taken : (e l h : ℕ) → NotRefused (granted e l h)
+granted-taken e l h n q = differ 3 0 refl (ap kindOf q)
+
+module _ (t : Held) (types : List ℕ) (h : Handed) (e left head : ℕ) (t′ : Held) (types′ : List ℕ)
+    (O : Outcome t types h (granted e left head) t′ types′) where
   abbrev s : List Node
-  s = factsAfter t h
+  s = stateAfter t h
 
   -- a granted answer comes from a sound table
   record Came : Type 0 where
@@ -219,18 +193,18 @@ module _ (t : Held) (types : List ℕ) (h : Handed) (v : Verdict) (t′ : Held) 
 
   came : Came
   came =
-      let A = not-refused (O .number) s v (O .answers) (ap numberOf z) in
+      let A = not-refused (O .number) s (granted e left head) (O .answers) (granted-taken e left head) in
       let T = taken-first t (testsOf t h types) (subst (FirstNo (questions t h types)) (A .0) (O .asked)) in
       record {
         formed =
-            filled-formed (factsIn t) h (sound-formed (t .table) (t .head .used) (recordsIn t) (T .1 .sound));
-        grants = grants-are s e left head (sym z ∙ A .1);
+            filled-formed (stateIn t) h (sound-formed (t .table) (t .head .used) (recordsIn t) (T .1 .sound));
+        grants = grants-are s e left head (A .1);
         written = O .writes ∙ ap (λ (n : ℕ). cond (eqb n taken) (typesAfter s types) types) (A .0);
       }
 
   -- "A granted list, also one from a sound table got in another way, is the one that document 01 gives for its facts,
   -- .."
-  pub granted-list : GrantedList s types e left head types′
+  granted-list : GrantedList s types e left head types′
   unfolding typesAfter
   granted-list =
       let C = came in
@@ -246,15 +220,99 @@ module _ (t : Held) (types : List ℕ) (h : Handed) (v : Verdict) (t′ : Held) 
       }
 
 -- "Entry k is the same in any two granted lists that have it and whose facts at and below argument word k agree."
-pub entries-agree : (t : Held) (types : List ℕ) (h : Handed) (v : Verdict) (t′ : Held) (types′ : List ℕ)
-    → Outcome t types h v t′ types′ → (e left head : ℕ) → v ≡ granted e left head
-    → (u : Held) (slice : List ℕ) (g : Handed) (w : Verdict) (u′ : Held) (slice′ : List ℕ)
-    → Outcome u slice g w u′ slice′ → (f rest size : ℕ) → w ≡ granted f rest size
-    → (k : ℕ) → k < e → k < f → AgreeAt k (factsAfter t h) (factsAfter u g)
-    → entryOf k (listOf (factsAfter t h)) ≡ entryOf k (listOf (factsAfter u g))
-entries-agree t types h v t′ types′ O e left head z u slice g w u′ slice′ Q f rest size y k ke kf A =
-    let C = came t types h v t′ types′ O e left head z in
-    let D = came u slice g w u′ slice′ Q f rest size y in
+entries-agree : (t : Held) (types : List ℕ) (h : Handed) (e left head : ℕ) (t′ : Held) (types′ : List ℕ)
+    → Outcome t types h (granted e left head) t′ types′
+    → (u : Held) (slice : List ℕ) (g : Handed) (f rest size : ℕ) (u′ : Held) (slice′ : List ℕ)
+    → Outcome u slice g (granted f rest size) u′ slice′
+    → (k : ℕ) → k < e → k < f → AgreeAt k (stateAfter t h) (stateAfter u g)
+    → entryOf k (listOf (stateAfter t h)) ≡ entryOf k (listOf (stateAfter u g))
+entries-agree t types h e left head t′ types′ O u slice g f rest size u′ slice′ Q k ke kf A =
+    let C = came t types h e left head t′ types′ O in
+    let D = came u slice g f rest size u′ slice′ Q in
     let a = C .grants .entries-are in
     let b = D .grants .entries-are in
-    entries.entry-same (factsAfter t h) (factsAfter u g) (C .formed) (D .formed) k (omega arith) (omega arith) A
+    entries.entry-same (stateAfter t h) (stateAfter u g) (C .formed) (D .formed) k (omega arith) (omega arith) A
+
+-- lists of calls from a fresh table of N records
+module _ (N : ℕ) (N1 : 1 ≤ N) (NM : N ≤ recordsMax) where
+  held : (cs : List Call) (t : Held) → Run (opened N) cs t → (t ≡ heldOf N (known N cs)) × Good N (known N cs)
+  held cs t R = run-held N N1 NM start (start-good N N1 NM) cs t R
+
+  stays-sound : (cs : List Call) (t : Held) → Run (opened N) cs t → HasRecords t × IsSound t
+  stays-sound cs t R =
+      let H = held cs t R in
+      let A = admitted N N1 NM (known N cs) (H .1) in
+      subst (λ (x : Held). HasRecords x × IsSound x) (sym (H .0)) (A .counted, A .sound)
+
+  steps-answer : (before : List Call) (bytes stack memory x : List ℕ) (number : ℕ) (left : Held)
+      → StepIn N before bytes stack memory x number left → number ≡ stepRefusal N (known N before) bytes stack memory x
+  steps-answer before bytes stack memory x number left I =
+      let H = held before (I .handed) (I .ran) in
+      let l = step-call.lend left (I .stack′) (I .memory′) in
+      step-answers N N1 NM (known N before) (H .1) bytes stack memory x number l
+      (subst (λ (t : Held). step-call.Outcome (step-call.lend t stack memory) bytes x number l) (H .0) (I .outcome))
+
+  closing-facts : (before : List Call) (h : Handed) (handed : Held) → Run (opened N) before handed
+      → stateAfter handed h ≡ closingState N before h
+  closing-facts before h handed R =
+      let H = held before handed R in
+      ap (λ (t : Held). stateAfter t h) (H .0) ∙ ap (λ (s : List Node). filled s h) (state N N1 NM (known N before) (H .1))
+
+  -- a closing in a list
+  module _ (before : List Call) (h : Handed) (types : List ℕ) where
+    closings-answer : (answer : Verdict) (left : Held) (types′ : List ℕ) → ClosingIn N before h types answer left types′
+        → answer ≡ answerBy (closingRefusal N (known N before) h types) (closingState N before h)
+    closings-answer answer left types′ I =
+        let H = held before (I .handed) (I .ran) in
+        closing-judged N N1 NM (known N before) (H .1) h types answer left types′
+        (subst (λ (t : Held). Outcome t types h answer left types′) (H .0) (I .outcome)) .0
+
+    closings-judged : (answer : Verdict) (left : Held) (types′ : List ℕ) → ClosingIn N before h types answer left types′
+        → NotRefused answer → JudgedBy (closingState N before h) answer
+    closings-judged answer left types′ I z =
+        let H = held before (I .handed) (I .ran) in
+        let A =
+        not-refused (closingRefusal N (known N before) h types) (closingState N before h) answer
+        (closings-answer answer left types′ I) z in
+        judged-so (closingState N before h) answer (filled-formed (known N before .state) h (H .1 .formed)) (A .1)
+
+    closings-granted : (entries budget head : ℕ) (left : Held) (types′ : List ℕ)
+        → ClosingIn N before h types (granted entries budget head) left types′
+        → GrantedList (closingState N before h) types entries budget head types′
+    closings-granted entries budget head left types′ I =
+        subst (λ (s : List Node). GrantedList s types entries budget head types′)
+        (closing-facts before h (I .handed) (I .ran))
+        (granted-list (I .handed) types h entries budget head left types′ (I .outcome))
+
+  of-lists : OfLists N
+  of-lists = record {
+    runs = λ cs. run-there N N1 NM start (start-good N N1 NM) cs;
+    follows = λ cs t R. held cs t R .0;
+    stays-sound = stays-sound;
+    steps-in = λ before bytes stack memory x u behind t R.
+        let S = split (opened N) before (step bytes stack memory x u) behind t R in
+        let D = S .does in (
+          D .0,
+          S .left,
+          record { handed = S .handed; ran = S .ran; stack′ = D .1; memory′ = D .2; outcome = D .3 },
+          S .rest,
+        );
+    steps-answer = steps-answer;
+    closings-in = λ before h types behind t R.
+        let S = split (opened N) before (closing h types) behind t R in
+        let D = S .does in
+        (D .0, S .left, D .1, record { handed = S .handed; ran = S .ran; outcome = D .2 }, S .rest);
+    closings-answer = closings-answer;
+    closings-judged = closings-judged;
+    closings-granted = closings-granted;
+    closing-facts = closing-facts;
+  }
+
+-- demand 3
+pub demand-3 : Demand3
+demand-3 = record {
+  fresh-first = fresh-first;
+  lists = of-lists;
+  granted-list = granted-list;
+  entries-agree = entries-agree;
+}

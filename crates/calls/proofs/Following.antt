@@ -1,4 +1,4 @@
--- The table and the head that the calls leave are those of what is known from the calls alone. Assumes nothing.
+-- The table and the head that the calls leave are those of what is known from the calls alone.
 use Prim.Native.Nat.{ℕ, _≤_}
 use mathlib.Core.Path.{_≡_, refl, sym, ap, subst, _∙_}
 use mathlib.Core.Bool.{Bool, true, false, cond}
@@ -8,7 +8,7 @@ use lib.Dec.{eqb}
 use lib.ListN.{length}
 use borrow.Author.Tests.{eqb-true, leb-true}
 use Rattle.limits.specs.Limits.{recordsMax}
-use Rattle.limits.specs.Questions.{taken}
+use Rattle.limits.specs.Refusal.{taken}
 use Rattle.facts.specs.Count.{Counted}
 use Rattle.facts.specs.Formed.{Formed}
 use Rattle.facts.specs.Sound.{Sound}
@@ -16,20 +16,22 @@ use Rattle.facts.specs.State.{Node, encode, root}
 use Rattle.facts.proofs.Lone.{fresh-sound, fresh-state}
 use Rattle.facts.proofs.States.{formed-state, formed-sound, sound-formed}
 use Rattle.kinds.proofs.KindSounds.{formed-fill}
-use Rattle.head.specs.Held.{Held, recordsIn, factsIn, holding}
-use Rattle.head.specs.Asked.{firstNo, Admits}
+use Rattle.head.specs.Held.{Held, recordsIn, stateIn, holding}
+use Rattle.head.specs.Asked.{firstNo, codeFits}
+use Rattle.head.specs.Admitting.{Admits}
 use Rattle.head.proofs.Asking.{sound-asked, sound-first}
 use Rattle.labels.specs.Step.{stepOf}
 use Rattle.analyze.specs.Phases.{activeAfter}
 use Rattle.analyze.specs.Analyze.{analyze}
 use Rattle.step.specs.Questions.{stepTests}
 use Rattle.step.specs.Call as step-call
-use Rattle.keeping.specs.Fits.{AreU32}
-use Rattle.keeping.proofs.Calling.{step-formed}
+use Rattle.calls.specs.Fits.{AreU32}
+use Rattle.calls.proofs.Keeping.{step-formed}
 use Rattle.closing.specs.Words.{Handed, fillWords, filled}
 use Rattle.closing.specs.Answer.{Verdict, typesAfter}
 use Rattle.closing.specs.Call as closing-call
-use Rattle.calls.specs.Facts.{Call, step, closing, Known, start, machineOf, stepRefusal, closingRefusal, stepped, closed, after, afterAll}
+use Rattle.calls.specs.Facts.{Call, step, closing, Known, start, machineOf, stepRefusal, closingRefusal, stepped}
+use Rattle.calls.specs.Facts.{closed, after, afterAll}
 use Rattle.calls.specs.Run.{Does, Run, heldOf}
 
 -- a fill keeps the facts formed, and a closing that is not refused had room for it
@@ -41,7 +43,7 @@ room-taken : (N : ℕ) (s : List Node) (h : Handed) (types : List ℕ)
     → firstNo (closing-call.closingTests N s h types) ≡ taken
     → length (filled s h) ≤ N
 unfolding closing-call.closingTests
-room-taken N s h types e = go (closing-call.codeFits h) (closing-call.typesFit types) (closing-call.roomThere N s h) refl e
+room-taken N s h types e = go (codeFits (h .code)) (closing-call.typesFit types) (closing-call.roomThere N s h) refl e
   where
     go : (a b c : Bool) → closing-call.roomThere N s h ≡ c → _≡_ {A = ℕ} (cond a (cond b (cond c 0 8) 9) 3) 0
         → length (filled s h) ≤ N
@@ -52,8 +54,8 @@ room-taken N s h types e = go (closing-call.codeFits h) (closing-call.typesFit t
 
 -- what is known meets question 2 and fits the table
 pub record Good (N : ℕ) (k : Known) : Type 0 where
-  pub formed : Formed (k .facts)
-  pub fits : length (k .facts) ≤ N
+  pub formed : Formed (k .state)
+  pub fits : length (k .state) ≤ N
 
 module _ (N : ℕ) (N1 : 1 ≤ N) (NM : N ≤ recordsMax) where
   pub start-good : Good N start
@@ -63,11 +65,11 @@ module _ (N : ℕ) (N1 : 1 ≤ N) (NM : N ≤ recordsMax) where
     abbrev t : Held
     t = heldOf N k
 
-    state : factsIn t ≡ k .facts
-    state = formed-state N (k .facts) (G .fits)
+    pub state : stateIn t ≡ k .state
+    state = formed-state N (k .state) (G .fits)
 
     sound : Sound (t .table) (t .head .used) N
-    sound = formed-sound N (k .facts) (G .fits) (G .formed)
+    sound = formed-sound N (k .state) (G .fits) (G .formed)
 
     counted : Counted (length (t .table)) N
     counted = record { is = sound .size; some = N1; most = NM }
@@ -90,7 +92,7 @@ module _ (N : ℕ) (N1 : 1 ≤ N) (NM : N ≤ recordsMax) where
         go false = refl
 
     -- no call after the fresh one is refused by 1 or 2
-    admitted : Admits t N
+    pub admitted : Admits t N
     admitted = record {
       is = sym count-is;
       counted = subst (Counted (length (t .table))) (sym count-is) counted;
@@ -107,7 +109,7 @@ module _ (N : ℕ) (N1 : 1 ≤ N) (NM : N ≤ recordsMax) where
 
       refusal-is : firstNo (step-call.testsOf lent bytes x) ≡ refusal
       refusal-is = λ i.
-          firstNo (stepTests (count-is i) (record { facts = state i; stack = stack; memory = memory }) (active-is i) bytes x)
+          firstNo (stepTests (count-is i) (record { state = state i; stack = stack; memory = memory }) (active-is i) bytes x)
 
       abbrev left : step-call.Lent
       left =
@@ -116,14 +118,19 @@ module _ (N : ℕ) (N1 : 1 ≤ N) (NM : N ≤ recordsMax) where
       effect-is : step-call.effect lent bytes x ≡ left
       unfolding step-call.effect
       effect-is = λ i. step-call.leftBy (count-is i) (activeAfter (active-is i) (stepOf x))
-          (analyze (record { facts = state i; stack = stack; memory = memory }) (active-is i) bytes (stepOf x))
+          (analyze (record { state = state i; stack = stack; memory = memory }) (active-is i) bytes (stepOf x))
+
+      -- the questions are decided with the paths so far
+      pub step-answers : (number : ℕ) (l : step-call.Lent) → step-call.Outcome lent bytes x number l → number ≡ refusal
+      step-answers number l O =
+          sound-first t (step-call.testsOf lent bytes x) (admitted .counted) (admitted .sound) number (O .asked)
+          ∙ refusal-is
 
       step-held : (number : ℕ) (l : step-call.Lent) → step-call.Outcome lent bytes x number l → (h : AreU32 x)
           → l .held ≡ heldOf N (after N k (step bytes stack memory x h))
       unfolding after
       step-held number l O h =
-          let first = sound-first t (step-call.testsOf lent bytes x) (admitted .counted) (admitted .sound) number (O .asked) in
-          let e : number ≡ refusal = first ∙ refusal-is in
+          let e = step-answers number l O in
           ap (λ (m : step-call.Lent). m .held) (O .leaves ∙ (λ i. cond (eqb (e i) taken) (effect-is i) lent))
           ∙ go (eqb refusal taken)
         where
@@ -161,8 +168,8 @@ module _ (N : ℕ) (N1 : 1 ≤ N) (NM : N ≤ recordsMax) where
       refuses = closingRefusal N k h types
 
       pub closing-judged : (v : Verdict) (t′ : Held) (types′ : List ℕ) → closing-call.Outcome t types h v t′ types′
-          → (v ≡ closing-call.answerBy refuses (filled (k .facts) h))
-          × (t′ ≡ cond (eqb refuses taken) (holding N (t .head .active) (filled (k .facts) h)) t)
+          → (v ≡ closing-call.answerBy refuses (filled (k .state) h))
+          × (t′ ≡ cond (eqb refuses taken) (holding N (t .head .active) (filled (k .state) h)) t)
       closing-judged v t′ types′ O =
           let first =
           sound-first t (closing-call.testsOf t h types) (admitted .counted) (admitted .sound) (O .number) (O .asked) in
@@ -178,7 +185,7 @@ module _ (N : ℕ) (N1 : 1 ≤ N) (NM : N ≤ recordsMax) where
           closing-judged v t′ types′ O .1 ∙ go (eqb refuses taken)
         where
           go : (b : Bool)
-              → cond b (holding N (t .head .active) (filled (k .facts) h)) t ≡ heldOf N (cond b (closed k h) k)
+              → cond b (holding N (t .head .active) (filled (k .state) h)) t ≡ heldOf N (cond b (closed k h) k)
           go true = refl
           go false = refl
 
@@ -188,15 +195,15 @@ module _ (N : ℕ) (N1 : 1 ≤ N) (NM : N ≤ recordsMax) where
         where
           go : (b : Bool) → eqb refuses taken ≡ b → Good N (cond b (closed k h) k)
           go true e = record {
-            formed = filled-formed (k .facts) h (G .formed);
-            fits = room-taken N (k .facts) h types (eqb-true refuses taken e);
+            formed = filled-formed (k .state) h (G .formed);
+            fits = room-taken N (k .state) h types (eqb-true refuses taken e);
           }
           go false e = G
 
       closing-there : Does t (closing h types) (heldOf N (after N k (closing h types)))
       closing-there =
           let n = firstNo (closing-call.testsOf t h types) in
-          let s = closing-call.factsAfter t h in
+          let s = closing-call.stateAfter t h in
           let v = closing-call.answerBy n s in
           let t′ = cond (eqb n taken) (holding (recordsIn t) (t .head .active) s) t in
           let types′ = cond (eqb n taken) (typesAfter s types) types in

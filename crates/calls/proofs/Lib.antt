@@ -1,3 +1,5 @@
 mod Following
 mod TermLaws
 pub mod Demand3
+pub mod Keeping
+pub mod Fitting

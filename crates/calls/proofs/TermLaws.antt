@@ -1,6 +1,5 @@
 -- Demand 3's terms are what the closing asks: an argument is known exactly if the root has a seen child, and no fact
 -- lies deeper than 64 exactly if the depths say so.
--- Assumes nothing.
 use Prim.Native.Nat.{ℕ, zero, suc, _≤_, _<_}
 use mathlib.Core.Path.{_≡_, refl, sym, ap, _∙_}
 use mathlib.Core.Bool.{Bool, true, false, true≢false, cond, not, _&&_, _||_, and-eq-true-iff}

@@ -1,5 +1,5 @@
 -- The calls themselves, by their contracts: "A taken fresh call comes first and fixes the record count. Each step or
--- closing then gets the table and head that the one before left". Assumes nothing: these are definitions.
+-- closing then gets the table and head that the one before left".
 use Prim.Native.Nat.{ℕ}
 use mathlib.Core.Path.{_≡_}
 use mathlib.Core.Bool.{cond}
@@ -24,4 +24,4 @@ Run t (c ∷ cs) t′ = (m : Held) × Does t c m × Run m cs t′
 
 -- the table and the head of what is known, in a table of N records
 abbrev pub heldOf : ℕ → Known → Held
-heldOf N k = holding N (cond (k .active) 1 0) (k .facts)
+heldOf N k = holding N (cond (k .active) 1 0) (k .state)

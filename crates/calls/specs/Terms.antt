@@ -1,17 +1,16 @@
--- The terms of demand 3, in its own and document 01's words, over a state s, whose seen nodes are the facts. Assumes
--- nothing: these are definitions.
+-- The terms of demand 3, in its own and document 01's words, over a state s, whose seen nodes are the facts.
 use Prim.Native.Nat.{ℕ, _≤_, _<_}
 use mathlib.Core.Path.{_≡_}
 use mathlib.Core.Bool.{true}
 use mathlib.Core.List.{List}
 use lib.ListN.{length}
-use Rattle.limits.specs.Limits.{budgetMax, depthMax}
+use Rattle.limits.specs.Limits.{budgetMax, depthMax, levelsMax}
 use Rattle.types.specs.Tree.{AbiTypes, count, allWellFormed, levels}
 use Rattle.types.specs.Codes.{allCodes}
 use Rattle.facts.specs.State.{Node, nodeOf}
 use Rattle.paths.specs.Path.{pathOf}
 use Rattle.list.specs.Budget.{spend}
-use Rattle.entries.specs.Entry.{entryOf}
+use Rattle.list_theorems.specs.Entry.{entryOf}
 
 -- "Facts are the seen records": r is one
 pub record Fact (s : List Node) (r : ℕ) : Type 0 where
@@ -34,13 +33,9 @@ NoneDeeper s = (r : ℕ) → Fact s r → length (pathOf s r) ≤ depthMax
 abbrev pub SumFits : List Node → Type 0
 SumFits s = spend s ≤ budgetMax
 
--- demand 3: "nests at most 129 levels"
-abbrev pub levelsMax : ℕ
-levelsMax = 129
-
 -- demand 3: "is made of ABI types only, has no more type parts than the sum, and nests at most 129 levels"; document
 -- 01: "Type parts are codes". A list ts for s
 pub record WellListed (s : List Node) (ts : AbiTypes) : Type 0 where
   pub types : allWellFormed ts ≡ true
   pub parts : length (allCodes ts) ≤ spend s
-  pub levels : (k : ℕ) → k < count ts → levels (entryOf k ts) ≤ levelsMax
+  pub nests : (k : ℕ) → k < count ts → levels (entryOf k ts) ≤ levelsMax

@@ -1,7 +1,7 @@
--- None, over or granted: what the answer and the type slice are in each case. Assumes nothing.
+-- None, over or granted: what the answer and the type slice are in each case.
 use Prim.Native.Nat.{ℕ, suc, _+_, _-_, _*_, _≤_}
 use mathlib.Core.Path.{_≡_, refl, sym, ap, _∙_}
-use mathlib.Core.Bool.{Bool, true, false, true≢false, cond, and-eq-true-iff}
+use mathlib.Core.Bool.{Bool, true, false, cond, and-eq-true-iff}
 use mathlib.Core.List.{List, _++_}
 use native.Mathlib.Omega.{arith}
 use native.Mathlib.Nat.{zero-add}
@@ -20,9 +20,9 @@ use Rattle.list.specs.Budget.{shallow, spend, fitsBudget}
 use Rattle.list.specs.Types.{wordTypes, listOf}
 use Rattle.budget.specs.declared.Budget.{Budget}
 use Rattle.budget.specs.declared.Budget.the-variants.{Left, Over}
-use Rattle.budget.specs.Answer.{budgetOf}
-use Rattle.sizes.proofs.ListCodes.{list-codes}
-use Rattle.sizes.proofs.Granted.{list-count}
+use Rattle.budget.specs.Answer.{budgetOf, wordTold}
+use Rattle.list_theorems.proofs.ListCodes.{list-codes}
+use Rattle.list_theorems.proofs.Granted.{list-count}
 use Rattle.closing.specs.Answer.{none, over, granted, answerOf, typesAfter}
 
 -- what a budget leaves, 0 for none
@@ -59,8 +59,8 @@ module _ (s : List Node) (bare : Bool) (types : List ℕ) (L : bare ≡ isEmpty 
 
     module _ (left : ℕ) (z : b ≡ Left left) where
       -- not over, so that the last word is told
-      pub not-over : b ≡ Over → ⊥
-      not-over o = let x : true ≡ false = ap isLeft (sym z ∙ o) in true≢false x
+      pub word-told : (w : ℕ) → w ≡ wordTold b (lastWord s 1) → w ≡ lastWord s 1
+      word-told w q = q ∙ ap (λ (x : Budget). wordTold x (lastWord s 1)) z
 
       fits : fitsBudget s ≡ true
       fits = sym fits-is ∙ ap isLeft z

@@ -1,18 +1,17 @@
 -- A closing that is refused leaves everything, and one that question 1 or 2 refuses is so whatever else it is handed.
--- Assumes nothing.
 use Prim.Native.Nat.{ℕ}
 use mathlib.Core.Path.{_≡_, refl, sym}
 use mathlib.Core.Bool.{false}
 use mathlib.Core.List.{List}
 use lib.Dec.{eqb}
-use Rattle.limits.specs.Questions.{taken}
+use Rattle.limits.specs.Refusal.{taken, numberOf}
 use Rattle.limits.specs.declared.refusal.Refusal.{Refusal}
-use Rattle.limits.specs.Refusal.{numberOf}
 use Rattle.limits.proofs.Refusals.{not-taken}
 use Rattle.head.specs.Held.{Held}
 use Rattle.head.specs.declared.Admitted.{Admitted}
 use Rattle.head.specs.declared.Admitted.the-variants.{Refused}
-use Rattle.head.specs.Asked.{firstNo, FirstNo, Admits, AdmittedBy}
+use Rattle.head.specs.Asked.{firstNo, FirstNo}
+use Rattle.head.specs.Admitting.{Admits, AdmittedBy}
 use Rattle.head.proofs.Asking.{sound-asked, refused-so}
 use Rattle.closing.specs.Words.{Handed}
 use Rattle.closing.specs.Answer.{refused}

@@ -1,4 +1,4 @@
--- Questions 3, 9 and 8, the fill and the answer: what each case of the code says of the outcome. Assumes nothing.
+-- Questions 3, 9 and 8, the fill and the answer: what each case of the code says of the outcome.
 use Prim.Native.Nat.{ℕ, _+_, _-_, _≤_, _<_}
 use mathlib.Core.Path.{_≡_, refl, sym, ap, _∙_}
 use mathlib.Core.List.{List}
@@ -11,13 +11,15 @@ use Rattle.facts.specs.State.{Node, nodes, encode}
 use Rattle.facts.proofs.Encode.{length-nodes}
 use Rattle.facts.proofs.States.{sound-formed}
 use Rattle.head.specs.declared.Head.{Head}
-use Rattle.head.specs.Held.{Held, held, recordsIn, factsIn, holding}
-use Rattle.head.specs.Asked.{firstNo, Admits}
+use Rattle.head.specs.Held.{Held, held, recordsIn, stateIn, holding}
+use Rattle.head.specs.Asked.{firstNo}
+use Rattle.head.specs.Admitting.{Admits}
 use Rattle.head.proofs.Asking.{sound-asked, admitted-sound}
-use Rattle.paths.specs.Holds.{Holds}
+use Rattle.paths.specs.Represents.{Represents}
 use Rattle.paths.proofs.Frame.{shaped-encode}
 use Rattle.paths.proofs.Sounds.{held-sound}
-use Rattle.kinds.specs.Fill.{fill, fillMissing}
+use Rattle.kinds.specs.Fill.{fill}
+use Rattle.kinds.specs.Missing.{fillMissing}
 use Rattle.kinds.proofs.FillLaws.{length-fill}
 use Rattle.kinds.proofs.KindSounds.{formed-fill}
 use Rattle.closing.specs.Words.{Handed, fillWords, filled}
@@ -30,7 +32,7 @@ module _ (N : ℕ) (head : Head) (table types : List ℕ) (h : Handed) (A : Admi
   t = held head table
 
   abbrev s : List Node
-  s = factsIn t
+  s = stateIn t
 
   S : Sound table (head .used) N
   S = admitted-sound t N A
@@ -74,7 +76,7 @@ module _ (N : ℕ) (head : Head) (table types : List ℕ) (h : Handed) (A : Admi
       pub room-left : m ≤ N - head .used → head .used + fillMissing s w ≤ N
       room-left g = let u = S .most in omega arith
 
-      module _ (g : m ≤ N - head .used) (t′ : List ℕ) (u′ : ℕ) (H : Holds t′ u′ N (fill s w)) where
+      module _ (g : m ≤ N - head .used) (t′ : List ℕ) (u′ : ℕ) (H : Represents t′ u′ N (fill s w)) where
         pub sound-filled : Sound t′ u′ N
         sound-filled = held-sound t′ u′ N (fill s w) H (formed-fill s w (sound-formed table (head .used) N S))
 

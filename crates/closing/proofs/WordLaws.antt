@@ -1,4 +1,4 @@
--- The words that a closing fills, line by line of the code. Assumes nothing.
+-- The words that a closing fills, line by line of the code.
 use Prim.Native.Nat.{ℕ, zero, suc, _-_, _≤_, _<_}
 use mathlib.Core.Path.{_≡_, refl, sym, ap, _∙_}
 use mathlib.Core.Bool.{Bool, true, false, cond, not, _&&_}
@@ -17,7 +17,8 @@ use Rattle.code.specs.Length.{directMinCalldataWords}
 use Rattle.code.specs.Dense.{denseMinCalldataWords}
 use Rattle.facts.specs.Table.{childOf, nextOf, kindOf}
 use Rattle.facts.specs.Links.{In}
-use Rattle.facts.specs.State.{Node, nodes, nodeOf, kidsIn, kidsOf}
+use Rattle.facts.specs.State.{Node, nodes, nodeOf, kidsIn}
+use Rattle.facts.specs.Linked.{kidsOf}
 use Rattle.facts.proofs.Encode.{nodes-get, kids-nodes}
 use Rattle.facts.proofs.Kids.{kids-in}
 use Rattle.paths.specs.Shape.{Shaped}
@@ -27,7 +28,8 @@ use Rattle.list.specs.Seen.{seenOnes, childrenIn, isEmpty}
 use Rattle.closing.specs.declared.Packed.{Packed}
 use Rattle.closing.specs.declared.Packed.the-variants.{Word}
 use Rattle.closing.specs.declared.Dynamics.{Dynamics}
-use Rattle.closing.specs.Words.{Handed, packedWords, override, minWords, dynamicOnes, dynamicArgs, oneLess, headBy, headWords, fillCount, fillWords}
+use Rattle.closing.specs.Words.{Handed, packedWords, override, minWords, dynamicOnes, dynamicArgs, oneLess}
+use Rattle.closing.specs.Words.{headBy, headWords, fillCount, fillWords}
 use Rattle.closing.specs.Dynamics.{dynamics, summary, resume}
 
 pub limit-some : (w : ℕ) → w ≤ argumentWordsMax → (w ≡ fillCount (Count w)) × (w ≤ argumentWordsMax)

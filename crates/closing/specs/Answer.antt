@@ -1,12 +1,11 @@
 -- "The answer is none (the root has no seen child), over, or granted with entry count, budget left and head length (our
--- addition), which is 32 times the entry count." Assumes nothing: these are definitions.
+-- addition), which is 32 times the entry count."
 use Prim.Native.Nat.{ℕ, suc, _-_, _*_}
 use mathlib.Core.Bool.{Bool, true, false, cond}
 use mathlib.Core.List.{List, _++_}
 use lib.ListN.{length, drop}
 use Rattle.limits.specs.Limits.{budgetMax, wordBytes}
-use Rattle.limits.specs.Questions.{taken}
-use Rattle.limits.specs.Refusal.{numberOf as refusalNumber}
+use Rattle.limits.specs.Refusal.{taken, numberOf as refusalNumber}
 use Rattle.types.specs.Codes.{allCodes}
 use Rattle.facts.specs.State.{Node}
 use Rattle.list.specs.Seen.{childrenIn, isEmpty, lastWord}
@@ -40,7 +39,7 @@ numberOf (granted e l h) = taken
 abbrev pub entries : List Node → ℕ
 entries s = suc (lastWord s 1)
 
--- the answer for the facts s, which are those after the fill
+-- the answer for the state s, which is that after the fill
 unfoldable pub answerOf : List Node → Verdict
 answerOf s =
     cond (isEmpty (childrenIn s 1)) none

@@ -1,5 +1,4 @@
 -- What the code keeps of the root's dynamic arguments: how many there are, two standing for more, and the first.
--- Assumes nothing: these are definitions.
 use Prim.Native.Nat.{ℕ, zero, suc}
 use mathlib.Core.List.{List, [], _∷_}
 use Rattle.closing.specs.declared.Dynamics.{Dynamics}

@@ -1,6 +1,6 @@
 -- The words of the arguments' head (the first words of the call data behind the selector, one for each argument) that a
 -- closing fills: "`direct_min_calldata_words`, overridden by `dense_min_calldata_words`, fills the head as in the
--- tail." Assumes nothing: these are definitions.
+-- tail."
 use Prim.Native.Nat.{ℕ, zero, suc}
 use mathlib.Core.Bool.{cond, _&&_}
 use mathlib.Core.List.{List, [], _∷_}

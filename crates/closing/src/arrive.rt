@@ -1,7 +1,7 @@
 // The public call.
 ghost use mathlib.Core.Path.{_≡_};
 ghost use Rattle.head.specs.Held.{held};
-ghost use Rattle.head.specs.Asked.{Admits};
+ghost use Rattle.head.specs.Admitting.{Admits};
 ghost use Rattle.closing.specs.Words.{hand};
 ghost use Rattle.closing.specs.Answer.{verdictOf, numberOf};
 ghost use Rattle.closing.specs.Call.{Outcome};
@@ -17,8 +17,8 @@ use kinds::fill;
 use kinds::fill_missing;
 use limits::CODE_MAX;
 use limits::Refusal;
+use limits::TAKEN;
 use limits::TYPES_ROOM;
-use limits::questions::TAKEN;
 
 // Document 01's number for an answer, 0 for one that is no refusal.
 pub fn number_of(answer: Closing) -> u32

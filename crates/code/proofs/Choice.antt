@@ -1,4 +1,4 @@
--- A reading that holds where something is pushed and a test passes, case by case. Assumes nothing.
+-- A reading that holds where something is pushed and a test passes, case by case.
 use mathlib.Core.Path.{_≡_}
 use mathlib.Core.Bool.{Bool, true, false, cond, not, _&&_, and-false}
 use Prim.Native.Nat.{ℕ}

@@ -1,4 +1,4 @@
--- The packed length: its mask, the reading at a place, and the lowest limb under the mask. Assumes nothing.
+-- The packed length: its mask, the reading at a place, and the lowest limb under the mask.
 use mathlib.Core.Path.{_≡_, refl, sym, ap, _∙_}
 use mathlib.Core.Bool.{Bool, true, false, not, cond, _&&_, and-false, true≢false}
 use mathlib.Core.List.{List}

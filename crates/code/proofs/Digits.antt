@@ -1,4 +1,4 @@
--- A number read byte by byte, and its bound. Assumes nothing.
+-- A number read byte by byte, and its bound.
 use mathlib.Core.Path.{_≡_, refl, sym, ap, _∙_, subst}
 use mathlib.Core.List.{List}
 use Prim.Native.Nat.{ℕ, _+_, _*_, _^_, _≤_, _<_}

@@ -1,4 +1,4 @@
--- What a guard and a division check make of a jump. Assumes nothing.
+-- What a guard and a division check make of a jump.
 use mathlib.Core.Path.{_≡_, sym, ap, _∙_}
 use mathlib.Core.Bool.{Bool, true, false, cond, not, _&&_, Bool·beq}
 use mathlib.Core.List.{List}
@@ -12,7 +12,8 @@ use Rattle.code.specs.declared.Jump.the-variants.{To, Absent}
 use Rattle.code.specs.Bytes.{isAt, pastByte}
 use Rattle.code.specs.Jump.{jumpAt}
 use Rattle.code.specs.Revert.{begins, beginsAny, emptyReverts, afterJumpdest, isEmptyRevert}
-use Rattle.code.specs.Guard.{failurePlace, guardFailurePc, revertAt, isEmptyRevertGuard, leadsToDivision, isDivisionCheck}
+use Rattle.code.specs.Guard.{failurePlace, guardFailurePc, revertAt, isEmptyRevertGuard, leadsToDivision}
+use Rattle.code.specs.Guard.{isDivisionCheck}
 use Rattle.code.proofs.Reverts.{from-place}
 
 module _ (code : List ℕ) (pc : ℕ) (lessThan : Bool) where

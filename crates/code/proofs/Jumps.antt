@@ -1,4 +1,4 @@
--- A jump behind a push, and what a guard and a division check make of it. Assumes nothing.
+-- A jump behind a push, and what a guard and a division check make of it.
 use mathlib.Core.Path.{_≡_, sym, ap, _∙_}
 use mathlib.Core.Bool.{Bool, true, false, not}
 use mathlib.Core.List.{List}

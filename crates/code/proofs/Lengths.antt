@@ -1,4 +1,4 @@
--- The checked length, directly, and the words in it. Assumes nothing.
+-- The checked length, directly, and the words in it.
 use mathlib.Core.Path.{_≡_, refl, sym, ap, _∙_}
 use mathlib.Core.Bool.{Bool, true, false, not, _&&_, and-false}
 use mathlib.Core.List.{List}
@@ -13,7 +13,8 @@ use Rattle.code.specs.declared.MinSize.the-variants.{Length, Unread}
 use Rattle.code.specs.declared.Words.{Words}
 use Rattle.code.specs.declared.Words.the-variants.{Count, Nothing}
 use Rattle.code.specs.Bytes.{isAt, pastByte, pushSizeAt, numberAt}
-use Rattle.code.specs.Length.{wordsIn, wordsOf, comparesSize, directOf, directFrom, directSize, directMinCalldataWords}
+use Rattle.code.specs.Length.{wordsIn, wordsOf, comparesSize, directOf, directFrom, directSize}
+use Rattle.code.specs.Length.{directMinCalldataWords}
 use Rattle.code.proofs.Choice.{unpushed, untested, chosen}
 use Rattle.code.proofs.Places.{inside}
 

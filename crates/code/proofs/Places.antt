@@ -1,5 +1,4 @@
 -- Laws of the byte at a place: inside the code, past its end, and what a byte that stands there says of the place.
--- Assumes nothing.
 use mathlib.Core.Path.{_≡_, refl, sym, ap, _∙_}
 use mathlib.Core.Bool.{Bool, true, false, cond, not}
 use mathlib.Core.List.{List, [], _∷_}

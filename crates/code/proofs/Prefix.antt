@@ -1,4 +1,4 @@
--- Comparing the start of a part with a byte string, one byte after the other. Assumes nothing.
+-- Comparing the start of a part with a byte string, one byte after the other.
 use mathlib.Core.Path.{_≡_, sym, ap, _∙_}
 use mathlib.Core.Bool.{true, false}
 use mathlib.Core.List.{List, [], _∷_}

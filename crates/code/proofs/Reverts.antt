@@ -1,4 +1,4 @@
--- The six byte strings, after one JUMPDEST. Assumes nothing.
+-- The six byte strings, after one JUMPDEST.
 use mathlib.Core.Path.{_≡_, refl, ap, _∙_}
 use mathlib.Core.Bool.{Bool, false, _||_, or-assoc, or-false}
 use mathlib.Core.List.{List, [], _∷_}

@@ -1,4 +1,4 @@
--- The code as a list of bytes: the byte at a place, or none past the end. Assumes nothing.
+-- The code as a list of bytes: the byte at a place, or none past the end (decision D26).
 use Prim.Native.Nat.{ℕ, zero, suc, _+_, _*_}
 use mathlib.Core.Bool.{Bool, false, cond}
 use mathlib.Core.List.{List}
@@ -30,8 +30,7 @@ unfoldable pub pushSizeAt : List ℕ → ℕ → ℕ
 pushSizeAt code at = pushed (getElem? code at)
 
 -- the number that n bytes from the place on stand for (Yellow Paper, PUSH: "The bytes are right-aligned (takes the
--- lowest significant place in big
--- endian)"). The readings below ask it only where a byte stands behind the n
+-- lowest significant place in big endian)"). The readings below ask it only where a byte stands behind the n
 unfoldable pub numberAt : List ℕ → ℕ → ℕ → ℕ
 numberAt code at zero = 0
 numberAt code at (suc n) = numberAt code at n * 256 + getD code (at + n) 0

@@ -1,4 +1,4 @@
--- `guard_failure_pc`, the empty revert behind it, and the check for zero before a division. Assumes nothing.
+-- `guard_failure_pc`, the empty revert behind it, and the check for zero before a division.
 use Prim.Native.Nat.{ℕ, _+_}
 use mathlib.Core.Bool.{Bool, false, cond, not, _&&_, Bool·beq}
 use mathlib.Core.List.{List}
@@ -18,8 +18,8 @@ failurePlace Absent falls = Nowhere
 failurePlace (To target next) falls = cond falls (At next) (At target)
 
 -- the Rust's `guard_failure_pc`: where control goes if the guard fails. After value < bound the jump is taken by values
--- in range, so that is the place
--- behind it; after value > bound by values out of range, so it is the target. ISZERO before the push turns the two
+-- in range, so control goes to the place behind it; after value > bound by values out of range, so it goes to the
+-- target. ISZERO before the push turns the two
 unfoldable pub guardFailurePc : List ℕ → ℕ → Bool → Place
 guardFailurePc code pc lessThan =
     failurePlace (jumpAt code (pastByte code pc ISZERO)) (not (Bool·beq lessThan (isAt code pc ISZERO)))

@@ -1,4 +1,4 @@
--- A jump whose target is pushed just before it: PUSH1 to PUSH4, its bytes, JUMPI. Assumes nothing.
+-- A jump whose target is pushed just before it: PUSH1 to PUSH4, its bytes, JUMPI.
 use Prim.Native.Nat.{ℕ, _+_}
 use mathlib.Core.Bool.{cond, not, _&&_}
 use mathlib.Core.List.{List}

@@ -1,5 +1,4 @@
--- The least length of call data that the code lets pass, and the words in it: `direct_min_calldata_words`. Assumes
--- nothing.
+-- The least length of call data that the code lets pass, and the words in it: `direct_min_calldata_words`.
 use Prim.Native.Nat.{ℕ, _+_, _-_, _/_, _%_}
 use mathlib.Core.Bool.{Bool, cond, not, _&&_}
 use mathlib.Core.List.{List}
@@ -13,7 +12,7 @@ use Rattle.code.specs.declared.Words.the-variants.{Count, Nothing}
 use Rattle.code.specs.Bytes.{isAt, pastByte, pushSizeAt, numberAt}
 
 -- whole words behind the selector: length is 4 plus 32 times words. A length below 4, or one that is no such sum, gives
--- nothing
+-- nothing (decision D27)
 unfoldable pub wordsIn : ℕ → Words
 wordsIn size =
     cond (leb selectorBytes size && eqb ((size - selectorBytes) % wordBytes) 0)

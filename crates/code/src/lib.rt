@@ -1,6 +1,5 @@
 // What the step and the closing read in the code. A place past the end of the code holds no byte: nothing is read
-// there, and no sum of places
-// wraps, since a pc is at most 2^32 - 1.
+// there, and no sum of places wraps, since a pc is at most 2^32 - 1.
 mod bytes;
 mod dense;
 mod guard;

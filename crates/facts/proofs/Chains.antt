@@ -1,4 +1,4 @@
--- The chains of the document (`Chained`) and the local links (`Linked`) say the same. Assumes nothing.
+-- The chains of the document (`Chained`) and the local links (`Linked`) say the same.
 use Prim.Native.Nat.{ℕ, zero, suc, _+_, _-_, _*_, _≤_, _<_, max}
 use mathlib.Core.Path.{_≡_, refl, sym, ap, _∙_, subst}
 use mathlib.Core.Logic.{_⊎_, inl, inr, ⊎-elim}
@@ -11,7 +11,8 @@ use lib.ListN.{getD}
 use Rattle.limits.specs.Limits.{recordWidth}
 use Rattle.limits.specs.Fields as field
 use Rattle.facts.specs.Table.{fld, keyOf, parentOf, childOf, nextOf}
-use Rattle.facts.specs.Links.{Kid, First, Linked, In, Seg, Rising, Chained}
+use Rattle.facts.specs.Links.{Kid, In, Seg, Rising}
+use Rattle.facts.specs.Linked.{First, Linked, Chained}
 
 -- ms is the rest, from c on, of a chain that has every child of p whose key is at least b
 pub record Rest (t : List ℕ) (u p b c : ℕ) (ms : List ℕ) : Type 0 where

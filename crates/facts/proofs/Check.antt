@@ -1,4 +1,4 @@
--- The pass over all records: what it adds up, and what equal weights show. Assumes nothing.
+-- The pass over all records: what it adds up, and what equal weights show.
 use Prim.Native.Nat.{ℕ, zero, suc, _+_, _-_, _*_, _≤_, _<_}
 use mathlib.Core.Path.{_≡_, refl, ap, _∙_}
 use mathlib.Core.Bool.{Bool, true, false}
@@ -10,16 +10,18 @@ use native.Mathlib.Decide.{ℕ-discrete}
 use lib.Dec.{eqb}
 use lib.ListN.{length}
 use borrow.Author.Tests.{eqb-true, eqb-false}
-use Rattle.facts.proofs.Distinct.{NoDup, total, Split, split, span, length-span, span-in, in-span, all-in, at-least}
+use Rattle.facts.proofs.Distinct.{NoDup, total, Split, split, span, length-span, span-in, in-span, all-in}
+use Rattle.facts.proofs.Distinct.{at-least}
 use Rattle.facts.proofs.Chains.{top, key-le, seg-in, in-seg, rising-once, chained-linked}
 use Rattle.facts.proofs.Whole.{is-root, root-fact, le-under-seen, under-seen-le}
 use Rattle.facts.proofs.Weights.{weight-is, link-none, link-some}
 use Rattle.limits.specs.Limits.{recordWidth, recordsMax}
 use Rattle.facts.specs.Table.{keyOf, parentOf, childOf, nextOf}
 use Rattle.facts.specs.State.{nodeAt}
-use Rattle.facts.specs.Links.{Kid, In, Seg, Rising, ChainOf, Chained, First}
-use Rattle.facts.specs.Fact.{isRecord, isUnderSeen, isRoot, AreRecords}
-use Rattle.facts.specs.Sound.{Tells}
+use Rattle.facts.specs.Links.{Kid, In, Seg, Rising, ChainOf}
+use Rattle.facts.specs.Linked.{Chained, First}
+use Rattle.facts.specs.Checks.{isRecord, isUnderSeen, isRoot, AreRecords}
+use Rattle.facts.specs.Checks.{Tells}
 use Rattle.facts.specs.Weights.{linkWeight, weightEnd, weight, linkTo, Leads, Under}
 
 -- what the link to the one behind r weighs

@@ -1,5 +1,5 @@
 -- Lists with no number twice, and the counting argument: such a list within another is no longer than it, and the rest
--- makes up the sums. Assumes nothing.
+-- makes up the sums.
 use Prim.Native.Nat.{ℕ, zero, suc, _+_, _-_, _≤_, _<_}
 use mathlib.Core.Path.{_≡_, refl, sym, ap, _∙_, subst}
 use mathlib.Core.Logic.{_⊎_, inl, inr, ⊎-elim}

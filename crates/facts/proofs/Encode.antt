@@ -1,4 +1,4 @@
--- A sound table is the one that its nodes stand for. Assumes nothing.
+-- A sound table is the one that its nodes stand for.
 use Prim.Native.Nat.{ℕ, zero, suc, _+_, _-_, _*_, _≤_, _<_}
 use mathlib.Core.Path.{_≡_, refl, sym, ap, _∙_}
 use mathlib.Core.Bool.{Bool, true, false, cond}
@@ -8,7 +8,8 @@ use native.Mathlib.Omega.{arith}
 use native.Mathlib.Nat.{eq-or-lt-of-le}
 use lib.Dec.{ltb, eqb}
 use Prim.Native.Nat.{_/_, _%_}
-use lib.ListN.{length, getD, take, drop, replicate, length-append, length-drop, length-replicate, getD-replicate, take-append-drop, List·getD-append}
+use lib.ListN.{length, getD, take, drop, replicate, length-append, length-drop, length-replicate, getD-replicate}
+use lib.ListN.{take-append-drop, List·getD-append}
 use lib.Seq.{getD-drop, take-add, ext-getD, getD-at, drop-cons}
 use borrow.Author.Tests.{eqb-true, eqb-false}
 use Rattle.facts.proofs.Laws.{column}
@@ -18,8 +19,11 @@ use Rattle.facts.proofs.Kids.{chain-kids, in-kids}
 use Rattle.limits.specs.Limits.{recordWidth}
 use Rattle.facts.specs.Table.{fld, parentOf, childOf, nextOf, Blank}
 use Rattle.facts.specs.Sound.{Sound}
-use Rattle.facts.specs.Links.{Linked, In, Seg}
-use Rattle.facts.specs.State.{Node, nodeAt, nodes, bare, ins, kids, kidsOf, nodeOf, kidsIn, headOr, after, nextIn, row, rows, encode}
+use Rattle.facts.specs.Links.{In, Seg}
+use Rattle.facts.specs.Linked.{Linked}
+use Rattle.facts.specs.State.{Node, nodeAt, nodes, bare, ins, kids, nodeOf, kidsIn, headOr, after, nextIn}
+use Rattle.facts.specs.Linked.{kidsOf}
+use Rattle.facts.specs.State.{row, rows, encode}
 
 pub length-nodes : (t : List ℕ) (n : ℕ) → length (nodes t n) ≡ n
 unfolding nodes

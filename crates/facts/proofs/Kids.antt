@@ -1,4 +1,4 @@
--- The chain of p is the list of its children in the order of their keys. Assumes nothing.
+-- The chain of p is the list of its children in the order of their keys.
 use Prim.Native.Nat.{ℕ, zero, suc, _+_, _-_, _≤_, _<_}
 use mathlib.Core.Path.{_≡_, refl, sym, ap, _∙_, subst}
 use mathlib.Core.Bool.{Bool, true, false, cond}
@@ -10,8 +10,10 @@ use lib.Dec.{ltb, eqb}
 use borrow.Author.Tests.{ltb-true, ltb-false, eqb-true, eqb-false}
 use Rattle.facts.proofs.Chains.{rising-low, linked-chained, rest}
 use Rattle.facts.specs.Table.{keyOf, parentOf, childOf}
-use Rattle.facts.specs.Links.{Kid, Linked, In, Seg, Rising}
-use Rattle.facts.specs.State.{ins, kids, kidsOf}
+use Rattle.facts.specs.Links.{Kid, In, Seg, Rising}
+use Rattle.facts.specs.Linked.{Linked}
+use Rattle.facts.specs.State.{ins, kids}
+use Rattle.facts.specs.Linked.{kidsOf}
 
 -- two lists whose keys rise, with the same members, are equal
 pub rising-eq : (t : List ℕ) (a b : ℕ) (l m : List ℕ) → Rising t a l → Rising t b m → ((x : ℕ) → In x l → In x m) → ((x : ℕ) → In x m → In x l) → l ≡ m

@@ -1,4 +1,4 @@
--- The laws of `fld` and `put`. Assumes nothing.
+-- The laws of `fld` and `put`.
 use Prim.Native.Nat.{ℕ, suc, _+_, _-_, _*_, _≤_, _<_}
 use mathlib.Core.Path.{_≡_, ap}
 use mathlib.Core.List.{List}
@@ -8,7 +8,8 @@ use mathlib.Core.Logic.{_⊎_, inl, inr}
 use lib.ListN.{length, getD, length-set}
 use lib.Seq.{getD-set-same, getD-set-other}
 use Rattle.limits.specs.Limits.{recordWidth}
-use Rattle.facts.specs.Table.{fld, put}
+use Rattle.facts.specs.Table.{fld}
+use Rattle.facts.specs.Access.{put}
 
 pub length-put : (t : List ℕ) (r f v : ℕ) → length (put t r f v) ≡ length t
 unfolding put

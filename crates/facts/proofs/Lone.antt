@@ -1,4 +1,4 @@
--- The table of a lone root is sound, and its state is the root. Assumes nothing.
+-- The table of a lone root is sound, and its state is the root.
 use Prim.Native.Nat.{ℕ, _+_, _-_, _*_, _≤_, _<_}
 use mathlib.Core.Path.{_≡_, ap, _∙_, subst}
 use mathlib.Core.Bool.{true}
@@ -8,11 +8,13 @@ use lib.ListN.{length, replicate, length-replicate, getD-replicate}
 use lib.Seq.{getD-set-other}
 use Rattle.limits.specs.Limits.{recordWidth}
 use Rattle.limits.specs.Fields as field
-use Rattle.facts.specs.Table.{fld, put, childOf, ZeroFrom}
+use Rattle.facts.specs.Table.{fld, childOf}
+use Rattle.facts.specs.Access.{put, ZeroFrom}
 use Rattle.facts.specs.Count.{Counted}
-use Rattle.facts.specs.Links.{Chained}
+use Rattle.facts.specs.Linked.{Chained}
 use Rattle.facts.specs.State.{Node, root, nodeAt, nodes, encode}
-use Rattle.facts.specs.Fact.{isBare, isRecord, AreRecords}
+use Rattle.facts.specs.Fact.{isBare}
+use Rattle.facts.specs.Checks.{isRecord, AreRecords}
 use Rattle.facts.specs.Sound.{Root, Sound}
 use Rattle.facts.proofs.Laws.{length-put, put-same, put-else}
 use Rattle.facts.proofs.Whole.{root-is, root-fact, parts-sound}

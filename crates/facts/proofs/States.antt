@@ -1,4 +1,4 @@
--- A table is sound just where it is the table of a formed state, which is then the one read off it. Assumes nothing.
+-- A table is sound just where it is the table of a formed state, which is then the one read off it.
 use Prim.Native.Nat.{ℕ, zero, suc, _+_, _-_, _*_, _≤_, _<_}
 use mathlib.Core.Path.{_≡_, refl, sym, ap, _∙_}
 use mathlib.Core.Bool.{true}
@@ -12,15 +12,20 @@ use borrow.Author.Tests.{eq-eqb, ne-eqb}
 use Rattle.limits.specs.Limits.{recordWidth}
 use Rattle.limits.specs.Fields as field
 use Rattle.facts.specs.Table.{fld, keyOf, parentOf, childOf, nextOf, seenOf, Blank}
-use Rattle.facts.specs.Links.{Kid, Linked, In, Seg, Rising, Chained}
-use Rattle.facts.specs.State.{Node, bare, root, nodeAt, nodes, nodeOf, kidsIn, kidsOf, headOr, after, nextIn, row, rows, encode}
-use Rattle.facts.specs.Fact.{isBare, isRecord, isUnderSeen}
+use Rattle.facts.specs.Links.{Kid, In, Seg, Rising}
+use Rattle.facts.specs.Linked.{Linked, Chained}
+use Rattle.facts.specs.State.{Node, bare, root, nodeAt, nodes, nodeOf, kidsIn, headOr, after, nextIn, row}
+use Rattle.facts.specs.Linked.{kidsOf}
+use Rattle.facts.specs.State.{rows, encode}
+use Rattle.facts.specs.Fact.{isBare}
+use Rattle.facts.specs.Checks.{isRecord, isUnderSeen}
 use Rattle.facts.specs.Sound.{Root, Sound}
 use Rattle.facts.specs.Formed.{Formed, TableOf}
 use Rattle.facts.proofs.Chains.{rising-low, in-seg, chained-linked}
 use Rattle.facts.proofs.Kids.{kids-in, in-kids, kids-rising}
 use Rattle.facts.proofs.Encode.{length-nodes, nodes-get, kids-ext, sound-encode}
-use Rattle.facts.proofs.Whole.{fact-parts, bare-zeros, root-is, seen-under, seen-flag, blank-zero, parts-sound, sound-chained, sound-fact}
+use Rattle.facts.proofs.Whole.{fact-parts, bare-zeros, root-is, seen-under, seen-flag, blank-zero, parts-sound}
+use Rattle.facts.proofs.Whole.{sound-chained, sound-fact}
 
 -- the node with number i + 1 stands at place i
 at : (s : List Node) (i : ℕ) → getD s i (bare 0 0) ≡ nodeOf s (suc i)

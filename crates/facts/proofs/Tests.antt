@@ -1,5 +1,4 @@
 -- What the code's tests of a record answer is what the definitions say: each law has the numbers read as its equations.
--- Assumes nothing.
 use Prim.Native.Nat.{ℕ, _≤_, _<_}
 use mathlib.Core.Path.{_≡_, refl, sym, _∙_}
 use mathlib.Core.Bool.{Bool, true, false, not, cond, _&&_, _||_, and-true, and-false, and-eq-true-iff}
@@ -12,9 +11,12 @@ use Rattle.facts.proofs.Whole.{bare-zeros, parts-fact}
 use Rattle.limits.specs.Limits.{kindDynamic, kindArray, arrayCountMax, dynamicCountMax, confidenceMax}
 use Rattle.limits.specs.Codes.{noName}
 use Rattle.names.specs.Elementary.{isName}
-use Rattle.facts.specs.Table.{keyOf, parentOf, nextOf, seenOf, notBoolOf, blockedOf, kindOf, countOf, nameOf, confidenceOf}
+use Rattle.facts.specs.Table.{keyOf, parentOf, nextOf, seenOf, notBoolOf, blockedOf, kindOf, countOf, nameOf}
+use Rattle.facts.specs.Table.{confidenceOf}
 use Rattle.facts.specs.State.{Node, nodeAt}
-use Rattle.facts.specs.Fact.{areFlags, isBare, isBareUnseen, isKind, isConfidence, isCount, isNamed, isRecord, isRoot}
+use Rattle.facts.specs.Fact.{areFlags, isBare, isBareUnseen, isKind, isConfidence, isCount, isNamed}
+use Rattle.facts.specs.Checks.{isRecord}
+use Rattle.facts.specs.Checks.{isRoot}
 
 -- the conjunction of a record's tests, by what is asked first
 reorder : (k d c n : Bool) → (k && d && c && n) ≡ ((k && c) && (d && n))

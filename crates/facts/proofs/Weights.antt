@@ -1,4 +1,4 @@
--- What records and links weigh, test by test. Assumes nothing.
+-- What records and links weigh, test by test.
 use Prim.Native.Nat.{ℕ, _+_, _≤_, _<_}
 use mathlib.Core.Path.{_≡_, refl, sym, _∙_, subst}
 use mathlib.Core.List.{List}

@@ -1,4 +1,4 @@
--- Question 2 in parts, as `is_sound` asks them, and as a whole. Assumes nothing.
+-- Question 2 in parts, as `is_sound` asks them, and as a whole.
 use Prim.Native.Nat.{ℕ, suc, _+_, _-_, _*_, _/_, _%_, _≤_, _<_}
 use mathlib.Core.Path.{_≡_, sym, _∙_}
 use mathlib.Core.Bool.{Bool, true, false, true≢false, _&&_, _||_, and-eq-true-iff}
@@ -10,10 +10,13 @@ use lib.Dec.{eqb, leb}
 use lib.ListN.{length}
 use Rattle.limits.specs.Limits.{recordWidth}
 use Rattle.names.specs.Elementary.{isName}
-use Rattle.facts.specs.Table.{fld, keyOf, parentOf, nextOf, seenOf, notBoolOf, blockedOf, Blank, ZeroFrom}
-use Rattle.facts.specs.Links.{Chained}
+use Rattle.facts.specs.Table.{fld, keyOf, parentOf, nextOf, seenOf, notBoolOf, blockedOf, Blank}
+use Rattle.facts.specs.Access.{ZeroFrom}
+use Rattle.facts.specs.Linked.{Chained}
 use Rattle.facts.specs.State.{Node, nodeAt}
-use Rattle.facts.specs.Fact.{areFlags, isBare, isBareUnseen, isKind, isConfidence, isCount, isNamed, isRecord, isUnderSeen, AreRecords, isRoot}
+use Rattle.facts.specs.Fact.{areFlags, isBare, isBareUnseen, isKind, isConfidence, isCount, isNamed}
+use Rattle.facts.specs.Checks.{isRecord}
+use Rattle.facts.specs.Checks.{isUnderSeen, AreRecords, isRoot}
 use Rattle.facts.specs.Sound.{Root, Sound}
 use Rattle.facts.proofs.Laws.{column}
 

@@ -1,5 +1,4 @@
--- Loops over zeros: one that stores zero in one place after the other, and one that tests whether all are zero. Assumes
--- nothing.
+-- Loops over zeros: one that stores zero in one place after the other, and one that tests whether all are zero.
 use Prim.Native.Nat.{ℕ, _+_, _-_, _≤_, _<_}
 use mathlib.Core.Path.{_≡_, refl, sym, _∙_}
 use mathlib.Core.Bool.{Bool, true, false, true≢false}
@@ -11,8 +10,8 @@ use lib.ListN.{length, getD, set, replicate, length-set, length-replicate, getD-
 use lib.Seq.{ext-getD, getD-set-same, getD-set-other}
 use Rattle.zeros.specs.Zeros.{zeros}
 use Rattle.zeros.proofs.Laws.{zeros-each, each-zeros}
-use Rattle.facts.specs.Table.{ZeroFrom}
-use Rattle.facts.specs.Sound.{Tells}
+use Rattle.facts.specs.Access.{ZeroFrom}
+use Rattle.facts.specs.Checks.{Tells}
 use Rattle.facts.proofs.Laws.{lt-or-ge}
 
 -- t is as long as s was, and zero before i

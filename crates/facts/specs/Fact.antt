@@ -1,17 +1,13 @@
--- Question 2's tests of one record, apart from its links. Assumes nothing: these are definitions.
-use Prim.Native.Nat.{ℕ, _≤_, _<_}
-use mathlib.Core.Path.{_≡_}
-use mathlib.Core.Bool.{Bool, true, cond, _&&_, _||_}
-use mathlib.Core.List.{List}
+-- Question 2's tests of one record, apart from its links.
+use mathlib.Core.Bool.{Bool, cond, _&&_, _||_}
 use lib.Dec.{eqb, leb}
 use Rattle.limits.specs.Between.{between}
 use Rattle.limits.specs.Limits.{kindDynamic, kindArray, arrayCountMax, dynamicCountMax, confidenceMax}
 use Rattle.limits.specs.Codes.{noName}
 use Rattle.names.specs.Elementary.{isName}
-use Rattle.facts.specs.Table.{keyOf, parentOf, nextOf, seenOf, notBoolOf}
-use Rattle.facts.specs.State.{Node, nodeAt}
+use Rattle.facts.specs.State.{Node}
 
--- "Flags are 0 or 1."
+-- "Flags are 0 or 1.": seen, not-bool and blocked (decision D32)
 abbrev pub areFlags : Node → Bool
 areFlags n = leb (n .seen) 1 && leb (n .notBool) 1 && leb (n .blocked) 1
 
@@ -41,21 +37,3 @@ isCount n =
 -- to 32."
 abbrev pub isNamed : Node → Bool
 isNamed n = eqb (n .name) noName || isName (n .name)
-
--- the tests above, all in one: of every used record, seen or not
-unfoldable pub isRecord : Node → Bool
-isRecord n = areFlags n && isBareUnseen n && isKind n && isConfidence n && isCount n && isNamed n
-
--- "A seen record's parent is seen"
-unfoldable pub isUnderSeen : List ℕ → ℕ → Bool
-isUnderSeen t r = eqb (seenOf t r) 0 || eqb (seenOf t (parentOf t r)) 1
-
--- what question 2 asks of the used records, their chains apart
-pub record AreRecords (t : List ℕ) (used : ℕ) : Type 0 where
-  pub fact : (r : ℕ) → 1 ≤ r → r ≤ used → isRecord (nodeAt t r) ≡ true
-  pub under-seen : (r : ℕ) → 1 < r → r ≤ used → isUnderSeen t r ≡ true
-
--- "The root is seen, otherwise zero but for child."
-unfoldable pub isRoot : List ℕ → Bool
-isRoot t =
-    eqb (seenOf t 1) 1 && eqb (keyOf t 1) 0 && eqb (parentOf t 1) 0 && eqb (nextOf t 1) 0 && eqb (notBoolOf t 1) 0 && isBare (nodeAt t 1)

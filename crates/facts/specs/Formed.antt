@@ -1,13 +1,12 @@
 -- What a state meets by itself: question 2 said of nodes. A table is sound exactly when it is the table of such a state
--- (`sound-exactly`), and that
--- state is the one read off it (`state-is`). Assumes nothing: these are definitions.
+-- (`sound-exactly`), and that state is the one read off it (`state-is`).
 use Prim.Native.Nat.{ℕ, _≤_, _<_}
 use mathlib.Core.Path.{_≡_}
 use mathlib.Core.Bool.{true}
 use mathlib.Core.List.{List}
 use lib.ListN.{length}
 use Rattle.facts.specs.State.{Node, root, nodeOf, encode}
-use Rattle.facts.specs.Fact.{isRecord}
+use Rattle.facts.specs.Checks.{isRecord}
 
 pub record Formed (s : List Node) : Type 0 where
   -- path 1 is the root

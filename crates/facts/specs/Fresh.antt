@@ -1,18 +1,13 @@
--- "A fresh call takes question 1 and leaves a lone root, the other records zero, active." Assumes nothing: these are
--- definitions.
+-- "A fresh call takes question 1 and leaves a lone root, the other records zero, active."
 use Prim.Native.Nat.{ℕ}
+use mathlib.Core.Bool.{cond}
 use mathlib.Core.List.{List, [], _∷_}
-use Rattle.limits.specs.Questions.{taken}
+use lib.Dec.{eqb}
+use Rattle.limits.specs.Refusal.{taken, numberOf as refusalNumber}
 use Rattle.limits.specs.declared.refusal.Refusal.the-variants.{NoRecords}
-use Rattle.limits.specs.Refusal.{numberOf as refusalNumber}
 use Rattle.facts.specs.State.{root, encode}
 use Rattle.facts.specs.declared.Records.{Records}
 use Rattle.facts.specs.declared.Records.the-variants.{Count, Unfit}
-
--- the table that a fresh call leaves, by question 1's answer; refused, it is as it was
-abbrev pub freshTable : Records → List ℕ → List ℕ
-freshTable (Count N) t = encode N (root ∷ [])
-freshTable Unfit t = t
 
 -- document 01's number for each answer of a fresh call; the 0 of one that is taken is ours
 abbrev pub numberOf : Records → ℕ
@@ -23,3 +18,7 @@ numberOf Unfit = refusalNumber NoRecords
 abbrev pub countOf : Records → ℕ
 countOf (Count N) = N
 countOf Unfit = 0
+
+-- the table that a fresh call leaves, by the number and the value of its answer; refused, it is as it was
+abbrev pub freshTable : Records → List ℕ → List ℕ
+freshTable r t = cond (eqb (numberOf r) taken) (encode (countOf r) (root ∷ [])) t

@@ -1,8 +1,11 @@
 pub mod Table
+pub mod Access
 pub mod Count
 pub mod Links
+pub mod Linked
 pub mod State
 pub mod Fact
+pub mod Checks
 pub mod Sound
 pub mod Formed
 pub mod Fresh

@@ -1,7 +1,7 @@
--- Question 2: "Is it sound?", sentence by sentence. Assumes nothing: these are definitions.
+-- Question 2: "Is it sound?", sentence by sentence.
 use Prim.Native.Nat.{ℕ, _*_, _≤_, _<_}
 use mathlib.Core.Path.{_≡_}
-use mathlib.Core.Bool.{Bool, true, false}
+use mathlib.Core.Bool.{Bool, true}
 use mathlib.Core.List.{List}
 use lib.ListN.{length}
 use Rattle.limits.specs.Limits.{recordWidth}
@@ -53,8 +53,3 @@ pub record Sound (t : List ℕ) (used N : ℕ) : Type 0 where
   pub name : Each t used isNamed
   -- "The root is seen, otherwise zero but for child."
   pub root : Root t
-
--- the answer b says whether P holds
-abbrev pub Tells : Bool → Type 0 → Type 0
-Tells true P = P
-Tells false P = P → ⊥

@@ -1,13 +1,13 @@
 -- The state: "the paths so far as the used records", each with its fields, in the order of their numbers; and the table
--- that a state stands for,
--- with child and next derived. Assumes nothing: these are definitions.
+-- that a state stands for, with child and next derived (decision D31).
 use Prim.Native.Nat.{ℕ, zero, suc, _+_, _-_, _*_}
 use mathlib.Core.Bool.{cond}
 use mathlib.Core.List.{List, [], _∷_, _++_}
 use lib.ListN.{length, getD, replicate}
 use lib.Dec.{eqb, ltb}
 use Rattle.limits.specs.Limits.{recordWidth}
-use Rattle.facts.specs.Table.{keyOf, parentOf, seenOf, notBoolOf, blockedOf, kindOf, countOf, nameOf, confidenceOf}
+use Rattle.facts.specs.Table.{keyOf, parentOf, seenOf, notBoolOf, blockedOf, kindOf, countOf, nameOf}
+use Rattle.facts.specs.Table.{confidenceOf}
 
 -- what a table says of a record, its links apart (specs/Table.antt says what each field is)
 pub record Node : Type 0 where
@@ -23,7 +23,8 @@ pub record Node : Type 0 where
 
 -- a new node: unseen, with no mark
 abbrev pub bare : ℕ → ℕ → Node
-bare p k = record { key = k; parent = p; seen = 0; notBool = 0; blocked = 0; kind = 0; count = 0; name = 0; confidence = 0 }
+bare p k =
+    record { key = k; parent = p; seen = 0; notBool = 0; blocked = 0; kind = 0; count = 0; name = 0; confidence = 0 }
 
 -- "At first there is path 1 alone, the root: no keys, seen, otherwise zero"
 abbrev pub root : Node
@@ -78,10 +79,6 @@ kids key parent p (suc n) =
 -- the children of p in a state
 unfoldable pub kidsIn : List Node → ℕ → List ℕ
 kidsIn s p = kids (λ r. nodeOf s r .key) (λ r. nodeOf s r .parent) p (length s)
-
--- the children of p in a table
-abbrev pub kidsOf : List ℕ → ℕ → ℕ → List ℕ
-kidsOf t u p = kids (λ r. keyOf t r) (λ r. parentOf t r) p u
 
 -- the first, 0 without one
 abbrev pub headOr : List ℕ → ℕ

@@ -1,20 +1,15 @@
 -- "Fact table: records of 11, numbered from 1, 0 means none: key, parent, child, next, seen, not-bool, blocked, kind,
--- count, name, confidence."
--- A table is the list of its numbers. Assumes nothing: these are definitions.
-use Prim.Native.Nat.{ℕ, _+_, _-_, _*_, _≤_, _<_}
+-- count, name, confidence." A table is the list of its numbers.
+use Prim.Native.Nat.{ℕ, _+_, _-_, _*_, _<_}
 use mathlib.Core.Path.{_≡_}
 use mathlib.Core.List.{List}
-use lib.ListN.{length, getD, set}
+use lib.ListN.{getD}
 use Rattle.limits.specs.Limits.{recordWidth}
 use Rattle.limits.specs.Fields as field
 
 -- field f (from 0) of record r (from 1)
 unfoldable pub fld : List ℕ → ℕ → ℕ → ℕ
 fld t r f = getD t ((r - 1) * recordWidth + f) 0
-
--- the table with v at field f of record r
-unfoldable pub put : List ℕ → ℕ → ℕ → ℕ → List ℕ
-put t r f v = set t ((r - 1) * recordWidth + f) v
 
 -- the last key of the record's path
 abbrev pub keyOf : List ℕ → ℕ → ℕ
@@ -62,21 +57,6 @@ nameOf t r = fld t r field.name
 abbrev pub confidenceOf : List ℕ → ℕ → ℕ
 confidenceOf t r = fld t r field.confidence
 
--- the table has the record r and its field f
-pub record Has (t : List ℕ) (r f : ℕ) : Type 0 where
-  pub from : 1 ≤ r
-  pub within : r * recordWidth ≤ length t
-  pub one : f < recordWidth
-
--- the table has the record r
-pub record HasRecord (t : List ℕ) (r : ℕ) : Type 0 where
-  pub from : 1 ≤ r
-  pub within : r * recordWidth ≤ length t
-
 -- record r is all zero
 pub record Blank (t : List ℕ) (r : ℕ) : Type 0 where
   pub zeros : (f : ℕ) → f < recordWidth → fld t r f ≡ 0
-
--- each number from place start on is zero
-abbrev pub ZeroFrom : List ℕ → ℕ → Type 0
-ZeroFrom t start = (i : ℕ) → start ≤ i → i < length t → getD t i 0 ≡ 0

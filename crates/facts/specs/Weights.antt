@@ -1,7 +1,5 @@
 -- What question 2's test of the chains adds up: records and the links that lead to them, each link as much as its
--- record. `weighed-chained` shows
--- that the links lead to every record but the root just where both sides are equal. Assumes nothing: these are
--- definitions.
+-- record. `weighed-chained` shows that the links lead to every record but the root just where both sides are equal.
 use Prim.Native.Nat.{ℕ, _+_, _^_, _≤_, _<_}
 use mathlib.Core.Path.{_≡_}
 use mathlib.Core.Bool.{cond}

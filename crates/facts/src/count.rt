@@ -1,13 +1,13 @@
 // Question 1.
-ghost use mathlib.Core.Path.{_≡_};
-ghost use Rattle.facts.specs.Count.{recordCount};
+ghost use Rattle.facts.specs.Count.{CountAnswer};
+ghost use Rattle.facts.specs.Fresh.{numberOf, countOf};
 use crate::Records;
 use limits::RECORD_WIDTH;
 use limits::RECORDS_MAX;
 
 // How many records a table of so many numbers has.
 pub fn record_count(numbers: usize) -> Records
-    ensures { λ r. ⌜ r ≡ recordCount numbers ⌝ }
+    ensures { λ r. ⌜ CountAnswer numbers (numberOf r) (countOf r) ⌝ }
 {
     if numbers % RECORD_WIDTH != 0 {
         return Records::Unfit;

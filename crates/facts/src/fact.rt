@@ -1,9 +1,10 @@
 // Question 2's tests of one record, its chain apart.
 ghost use mathlib.Core.Path.{_≡_};
 ghost use mathlib.Core.Bool.{_&&_};
-ghost use Rattle.facts.specs.Table.{HasRecord};
+ghost use Rattle.facts.specs.Access.{HasRecord};
 ghost use Rattle.facts.specs.State.{nodeAt};
-ghost use Rattle.facts.specs.Fact.{areFlags, isBare, isKind, isConfidence, isCount, isNamed, isRecord, isRoot};
+ghost use Rattle.facts.specs.Fact.{areFlags, isBare, isKind, isConfidence, isCount, isNamed};
+ghost use Rattle.facts.specs.Checks.{isRecord, isRoot};
 use crate::table::field;
 use limits::ARRAY_COUNT_MAX;
 use limits::CONFIDENCE_MAX;

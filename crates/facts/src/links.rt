@@ -4,10 +4,10 @@ ghost use mathlib.Core.Bool.{true};
 ghost use Prim.Native.Nat.{_+_, _*_, _^_, _≤_, _<_};
 ghost use lib.ListN.{length};
 ghost use Rattle.limits.specs.Limits.{recordWidth, recordsMax};
-ghost use Rattle.facts.specs.Table.{HasRecord};
-ghost use Rattle.facts.specs.Links.{Chained};
-ghost use Rattle.facts.specs.Fact.{isRoot, AreRecords};
-ghost use Rattle.facts.specs.Sound.{Tells};
+ghost use Rattle.facts.specs.Access.{HasRecord};
+ghost use Rattle.facts.specs.Linked.{Chained};
+ghost use Rattle.facts.specs.Checks.{isRoot, AreRecords};
+ghost use Rattle.facts.specs.Checks.{Tells};
 ghost use Rattle.facts.specs.Weights.{weight, weightEnd, Leads, Under, Weighs};
 use crate::Link;
 use crate::fact::is_record;
@@ -48,8 +48,7 @@ fn weight_of(table: &[u32], r: u32) -> u64
 }
 
 // What links of that weight come to with one more, to record c, 0 for none, which stands in the chain of p behind one
-// that weighs so much. That its number is
-// higher than its parent's is asked of each record by itself.
+// that weighs so much. That its number is higher than its parent's is asked of each record by itself.
 fn with_link(table: &[u32], used: u32, p: u32, before: u64, c: u32, links: u64) -> Link
     requires { ⌜ used * recordWidth ≤ length (now table) ⌝ }
     requires { ⌜ links + weightEnd ≤ 2 ^ 64 ⌝ }
@@ -72,11 +71,9 @@ fn with_link(table: &[u32], used: u32, p: u32, before: u64, c: u32, links: u64) 
 }
 
 // Does each used record but the root stand once in the chain of its parent, and nothing else in a chain, and do all
-// pass their tests? One pass in the order
-// of the numbers looks at each record's own links, so that no load waits for the one before. Each link weighs as much
-// as the record that it leads to: a
-// record that stands in no chain either has no next one, and a link is missing, or leads to a higher key than its own,
-// and the links weigh more.
+// pass their tests? One pass in the order of the numbers looks at each record's own links, so that no load waits for
+// the one before. Each link weighs as much as the record that it leads to: a record that stands in no chain either has
+// no next one, and a link is missing, or leads to a higher key than its own, and the links weigh more.
 pub fn are_chained_records(table: &[u32], used: u32) -> bool
     requires { ⌜ (1 ≤ used) × (used ≤ recordsMax) ⌝ }
     requires { ⌜ used * recordWidth ≤ length (now table) ⌝ }

@@ -1,9 +1,10 @@
 // Question 2.
 ghost use lib.ListN.{length};
 ghost use Prim.Native.Nat.{_≤_};
-ghost use Rattle.facts.specs.Table.{ZeroFrom};
+ghost use Rattle.facts.specs.Access.{ZeroFrom};
 ghost use Rattle.facts.specs.Count.{Counted};
-ghost use Rattle.facts.specs.Sound.{Sound, Tells};
+ghost use Rattle.facts.specs.Sound.{Sound};
+ghost use Rattle.facts.specs.Checks.{Tells};
 use crate::fact::is_root;
 use crate::links::are_chained_records;
 use limits::RECORD_WIDTH;

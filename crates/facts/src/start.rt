@@ -1,14 +1,14 @@
 // The fresh call.
 ghost use mathlib.Core.Path.{_≡_};
 ghost use lib.ListN.{length, replicate};
-ghost use Rattle.facts.specs.Count.{recordCount};
-ghost use Rattle.facts.specs.Fresh.{freshTable, numberOf};
+ghost use Rattle.facts.specs.Count.{CountAnswer};
+ghost use Rattle.facts.specs.Fresh.{freshTable, numberOf, countOf};
 use crate::Records;
 use crate::count::record_count;
 use crate::table::set_field;
 use limits::Refusal;
+use limits::TAKEN;
 use limits::fields::SEEN;
-use limits::questions::TAKEN;
 
 // Stores zero everywhere.
 fn clear(table: &mut [u32])
@@ -23,7 +23,7 @@ fn clear(table: &mut [u32])
 
 // Leaves a lone root, the other records zero, if question 1 takes the table; its answer.
 pub fn fresh(table: &mut [u32]) -> Records
-    ensures { λ r. ⌜ r ≡ recordCount (length (now (table .entry))) ⌝ }
+    ensures { λ r. ⌜ CountAnswer (length (now (table .entry))) (numberOf r) (countOf r) ⌝ }
     ensures { λ r. ⌜ now (table .exit) ≡ freshTable r (now (table .entry)) ⌝ }
 {
     let count = record_count(table.len());

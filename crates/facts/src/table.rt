@@ -1,6 +1,7 @@
 // One number of one record.
 ghost use mathlib.Core.Path.{_≡_};
-ghost use Rattle.facts.specs.Table.{fld, put, Has};
+ghost use Rattle.facts.specs.Table.{fld};
+ghost use Rattle.facts.specs.Access.{put, Has};
 use limits::RECORD_WIDTH;
 
 // Field f of record r.

@@ -1,5 +1,4 @@
 -- `one-outcome`: the bytes of a group have one outcome for one input: what is said of them, the head and the table.
--- Assumes nothing.
 use Prim.Native.Nat.{ℕ}
 use mathlib.Core.Path.{_≡_, sym, ap, _∙_}
 use mathlib.Core.List.{List}

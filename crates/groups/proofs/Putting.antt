@@ -1,5 +1,4 @@
--- The numbers that are read from a whole group are its parts, and the step call with them is the group's. Assumes
--- nothing.
+-- The numbers that are read from a whole group are its parts, and the step call with them is the group's.
 use Prim.Native.Nat.{ℕ, _+_, _*_, _-_}
 use mathlib.Core.Path.{_≡_, ap, subst, _∙_}
 use mathlib.Core.List.{List}

@@ -1,4 +1,4 @@
--- What `is_group` tells, and that what is read by a front's counts is a whole group. Assumes nothing.
+-- What `is_group` tells, and that what is read by a front's counts is a whole group.
 use Prim.Native.Nat.{ℕ, _+_, _≤_, _<_}
 use mathlib.Core.Path.{_≡_, refl, sym, ap, _∙_}
 use mathlib.Core.Bool.{Bool, true, false}
@@ -7,7 +7,7 @@ use native.Mathlib.Omega.{arith}
 use lib.Dec.{eqb}
 use lib.ListN.{length, length-append}
 use borrow.Author.Tests.{eqb-true, eqb-false, eq-eqb, le-leb}
-use Rattle.facts.specs.Sound.{Tells}
+use Rattle.facts.specs.Checks.{Tells}
 use Rattle.trace.specs.declared.GroupRest.{GroupRest}
 use Rattle.trace.specs.declared.GroupRest.the-variants.{Bytes, Over}
 use Rattle.trace.specs.Fits.{groupFits}

@@ -1,5 +1,4 @@
--- What becomes of the bytes of a group: they are no whole one, or their step is put. Assumes nothing: these are
--- definitions.
+-- What becomes of the bytes of a group: they are no whole one, or their step is put.
 use Prim.Native.Nat.{ℕ}
 use mathlib.Core.Path.{_≡_}
 use mathlib.Core.List.{List}
@@ -36,7 +35,8 @@ pub record Put (h : Held) (code bytes : List ℕ) (number : ℕ) (h′ : Held) :
 -- what is said of the bytes, and what is held behind them. (`one-outcome`: there is one outcome only.)
 pub data Outcome (h : Held) (code bytes : List ℕ) (v : Verdict) (h′ : Held) : Type 0 where
   -- "Input that is short, over these sizes, .. prints `input refused`"; bytes behind the last entry are no part of a
-  -- group and are said to be none either, which the printer never hands over (`read-whole`). Nothing is changed
+  -- group, so that with them there is no whole one; the printer never hands such over (`read-whole`). Nothing is
+  -- changed
   not-group : (IsGroup bytes → ⊥) → v ≡ inputRefused → h′ ≡ h → Outcome h code bytes v h′
   -- "for each step its 59 numbers, slot count, entry count, slots, entries": the step call with these
   step : IsGroup bytes → (number : ℕ) → v ≡ answered number → Put h code bytes number h′ → Outcome h code bytes v h′

@@ -1,5 +1,5 @@
 -- What the bytes of a group hold, and when they are a whole one: "for each step its 59 numbers, slot count, entry
--- count, slots, entries". Assumes nothing: these are definitions.
+-- count, slots, entries".
 use Prim.Native.Nat.{ℕ, _+_, _*_, _≤_}
 use mathlib.Core.Path.{_≡_}
 use mathlib.Core.List.{List}

@@ -1,5 +1,5 @@
 // Are the bytes a whole group?
-ghost use Rattle.facts.specs.Sound.{Tells};
+ghost use Rattle.facts.specs.Checks.{Tells};
 ghost use Rattle.groups.specs.Group.{IsGroup};
 use trace::FRONT_BYTES;
 use trace::GroupRest;

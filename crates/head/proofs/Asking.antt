@@ -1,4 +1,4 @@
--- `one-no`: questions have one first "no" only; and what follows once 1 and 2 are passed. Assumes nothing.
+-- `one-no`: questions have one first "no" only; and what follows once 1 and 2 are passed.
 use Prim.Native.Nat.{ℕ}
 use mathlib.Core.Path.{_≡_, refl, sym, ap, subst, _∙_}
 use mathlib.Core.Bool.{true≢false}
@@ -7,16 +7,16 @@ use mathlib.Core.List.{List, []}
 use native.Mathlib.Omega.{arith}
 use lib.Dec.{eqb}
 use lib.ListN.{length}
-use Rattle.limits.specs.Questions.{taken}
+use Rattle.limits.specs.Refusal.{taken, numberOf}
 use Rattle.limits.specs.declared.refusal.Refusal.{Refusal}
-use Rattle.limits.specs.Refusal.{numberOf}
 use Rattle.limits.proofs.Refusals.{not-taken}
 use Rattle.facts.specs.Count.{Counted}
 use Rattle.facts.specs.Sound.{Sound}
 use Rattle.head.specs.declared.Admitted.{Admitted}
 use Rattle.head.specs.declared.Admitted.the-variants.{Records, Refused}
 use Rattle.head.specs.Held.{Held, HasRecords, IsSound}
-use Rattle.head.specs.Asked.{Test, firstNo, Questions, tests, ask, FirstNo, afterSound, Admits, AdmittedBy}
+use Rattle.head.specs.Asked.{Test, firstNo, Questions, tests, ask, FirstNo, afterSound}
+use Rattle.head.specs.Admitting.{Admits, AdmittedBy}
 
 pub one-no : (q : Questions) (n m : ℕ) → FirstNo q n → FirstNo q m → n ≡ m
 one-no (tests ts) n m e d = e ∙ sym d

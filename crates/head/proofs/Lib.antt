@@ -1,2 +1,3 @@
 pub mod Asking
 mod Admitting
+pub mod Outcomes

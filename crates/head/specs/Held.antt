@@ -1,5 +1,4 @@
 -- What goes along with every call: "Beside it, the head (records used, decoder active) goes along with every call."
--- Assumes nothing: these are definitions.
 use Prim.Native.Nat.{ℕ, _/_, _≤_}
 use mathlib.Core.List.{List}
 use lib.ListN.{length}
@@ -21,11 +20,11 @@ held head table = record { head = head; table = table }
 abbrev pub recordsIn : Held → ℕ
 recordsIn h = length (h .table) / recordWidth
 
--- the facts of the used records, in the order of their numbers
-abbrev pub factsIn : Held → List Node
-factsIn h = nodes (h .table) (h .head .used)
+-- the state of the used records
+abbrev pub stateIn : Held → List Node
+stateIn h = nodes (h .table) (h .head .used)
 
--- the facts s in a table of N records, the other records zero, with the head beside it
+-- the state s in a table of N records, the other records zero, with the head beside it
 abbrev pub holding : ℕ → ℕ → List Node → Held
 holding N active s = held (record { used = length s; active = active }) (encode N s)
 

@@ -1,6 +1,6 @@
 // Questions 1 and 2.
 ghost use Rattle.head.specs.Held.{held};
-ghost use Rattle.head.specs.Asked.{AdmittedBy};
+ghost use Rattle.head.specs.Admitting.{AdmittedBy};
 use crate::Admitted;
 use crate::Head;
 use facts::Records;

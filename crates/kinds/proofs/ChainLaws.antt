@@ -1,4 +1,4 @@
--- One walk of the root's chain beside the rising keys of the words: where it goes on after a word. Assumes nothing.
+-- One walk of the root's chain beside the rising keys of the words: where it goes on after a word.
 use Prim.Native.Nat.{ℕ, _≤_, _<_}
 use mathlib.Core.Path.{_≡_, sym, ap, _∙_}
 use mathlib.Core.Logic.{⊎-elim}
@@ -11,7 +11,7 @@ use Rattle.facts.proofs.Encode.{length-nodes, nodes-get}
 use Rattle.paths.specs.Shape.{Shaped}
 use Rattle.paths.specs.Find.{findIn}
 use Rattle.paths.specs.Make.{getOrCreate}
-use Rattle.paths.specs.Holds.{Makes}
+use Rattle.paths.specs.Represents.{Makes}
 use Rattle.paths.specs.Place.{Before}
 use Rattle.paths.proofs.Reach.{Named, found-named, create-named}
 

@@ -1,5 +1,4 @@
--- Which paths the operations on kinds and the fill add: none, and those of the first words; no path moves. Assumes
--- nothing.
+-- Which paths the operations on kinds and the fill add: none, and those of the first words; no path moves.
 use Prim.Native.Nat.{ℕ, zero, suc, _*_, _<_}
 use mathlib.Core.Path.{_≡_, refl, sym, ap, _∙_}
 use mathlib.Core.Bool.{cond, _&&_}

@@ -1,4 +1,4 @@
--- Looking for a kind at a record and below it, one child a turn. Assumes nothing.
+-- Looking for a kind at a record and below it, one child a turn.
 use Prim.Native.Nat.{ℕ, zero, suc, _-_, _≤_, _<_}
 use mathlib.Core.Path.{_≡_, refl, sym, ap, _∙_}
 use mathlib.Core.Bool.{Bool, true, false, not, _&&_, _||_}
@@ -10,7 +10,8 @@ use lib.ListN.{length}
 use borrow.Author.Tests.{eq-eqb, ne-eqb}
 use Rattle.facts.specs.Table.{childOf, nextOf, seenOf, kindOf}
 use Rattle.facts.specs.Links.{In}
-use Rattle.facts.specs.State.{Node, nodes, nodeOf, kidsIn, kidsOf}
+use Rattle.facts.specs.State.{Node, nodes, nodeOf, kidsIn}
+use Rattle.facts.specs.Linked.{kidsOf}
 use Rattle.facts.proofs.Encode.{length-nodes, nodes-get, kids-nodes}
 use Rattle.facts.proofs.Kids.{kids-in}
 use Rattle.paths.specs.Shape.{Shaped}

@@ -1,6 +1,5 @@
 -- Filling the head word by word: what a word adds does not depend on the words before it, so the room can be known
--- before any is made. Assumes
--- nothing.
+-- before any is made.
 use Prim.Native.Nat.{ℕ, zero, suc, _+_, _*_, _≤_, _<_}
 use mathlib.Core.Path.{_≡_, refl, sym, ap, _∙_}
 use mathlib.Core.Bool.{cond}
@@ -17,11 +16,13 @@ use Rattle.facts.specs.State.{Node, nodes}
 use Rattle.facts.proofs.Encode.{length-nodes}
 use Rattle.paths.specs.Shape.{Shaped}
 use Rattle.paths.specs.Find.{findIn}
-use Rattle.paths.specs.Make.{missing, getOrCreate}
-use Rattle.paths.specs.Holds.{Holds, Makes}
+use Rattle.paths.specs.Make.{getOrCreate}
+use Rattle.paths.specs.Adds.{missing}
+use Rattle.paths.specs.Represents.{Represents, Makes}
 use Rattle.paths.proofs.Reach.{length-create}
 use Rattle.paths.proofs.Lookups.{find-create}
-use Rattle.kinds.specs.Fill.{fill, fillMissing}
+use Rattle.kinds.specs.Fill.{fill}
+use Rattle.kinds.specs.Missing.{fillMissing}
 
 -- the words before do not change what a key finds
 pub find-fill : (s : List Node) (i k : ℕ) → wordBytes * i ≤ k → findIn (fill s i) 1 k ≡ findIn s 1 k
@@ -115,7 +116,7 @@ filling-next s words t used N i k t′ used′ r I h e M = record {
 }
 
 pub filling-done : (t₀ : List ℕ) (used₀ words : ℕ) (t : List ℕ) (used N i : ℕ) → Filling (nodes t₀ used₀) words t used N i → words ≤ i
-    → Holds t used N (fill (nodes t₀ used₀) words) × (used ≡ used₀ + fillMissing (nodes t₀ used₀) words)
+    → Represents t used N (fill (nodes t₀ used₀) words) × (used ≡ used₀ + fillMissing (nodes t₀ used₀) words)
 filling-done t₀ used₀ words t used N i I h =
     let e : i ≡ words = (let l = I .low in omega arith) in
     let a = filling-used (nodes t₀ used₀) words t used N i I in

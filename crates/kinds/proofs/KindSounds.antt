@@ -1,4 +1,4 @@
--- A formed state stays formed when a kind is set and when the head is filled. Assumes nothing.
+-- A formed state stays formed when a kind is set and when the head is filled.
 use Prim.Native.Nat.{ℕ, zero, suc, _*_, _≤_, _<_}
 use mathlib.Core.Path.{_≡_, refl}
 use mathlib.Core.Bool.{Bool, true, false, cond, _&&_}
@@ -10,7 +10,7 @@ use borrow.Author.Tests.{eqb-false, le-leb}
 use Rattle.limits.specs.Limits.{wordBytes, kindDynamic, kindArray, arrayCountMax, dynamicCountMax}
 use Rattle.limits.specs.Fields as field
 use Rattle.facts.specs.State.{Node, nodeOf}
-use Rattle.facts.specs.Fact.{isRecord}
+use Rattle.facts.specs.Checks.{isRecord}
 use Rattle.facts.specs.Formed.{Formed}
 use Rattle.facts.proofs.Whole.{fact-parts, parts-fact}
 use Rattle.paths.specs.Update.{withField}

@@ -1,4 +1,4 @@
--- Counting the arrays of a path, one record a turn. Assumes nothing.
+-- Counting the arrays of a path, one record a turn.
 use Prim.Native.Nat.{ℕ, zero, suc, _+_, _≤_, _<_, _^_}
 use mathlib.Core.Path.{_≡_, refl, sym, ap, _∙_}
 use mathlib.Core.Bool.{cond}
@@ -9,7 +9,8 @@ use native.Mathlib.Nat.{eq-or-lt-of-le}
 use lib.Dec.{eqb}
 use borrow.Author.Tests.{eq-eqb, ne-eqb}
 use Rattle.limits.specs.Limits.{recordWidth, kindArray}
-use Rattle.facts.specs.Table.{Has, parentOf, kindOf}
+use Rattle.facts.specs.Table.{parentOf, kindOf}
+use Rattle.facts.specs.Access.{Has}
 use Rattle.facts.specs.State.{Node, nodes, nodeOf}
 use Rattle.facts.proofs.Encode.{nodes-get}
 use Rattle.paths.specs.Shape.{Shaped}
@@ -39,7 +40,7 @@ up-end (suc m) s c z = rw (eq-eqb c 0 z) refl
 
 module _ (t : List ℕ) (used N r arrays c : ℕ) (W : Upward t used N r arrays c) (n : c ≡ 0 → ⊥) where
   pub up-has : (f : ℕ) → f < recordWidth → Has t c f
-  up-has f h = let w = W .shaped .linked .whole in let l = W .low in record { from = omega arith; within = omega arith; one = h }
+  up-has f h = let w = W .shaped .linked .whole in let l = W .low in record { from = omega arith; within = omega arith; field = h }
 
   pub up-fits : used < 2 ^ 32 → arrays + 1 < 2 ^ 32
   up-fits h = let l = W .low in omega arith

@@ -1,4 +1,4 @@
--- Kinds and counts, over the state: `set_info`, `array_in_path`, `has_dynamic`. Assumes nothing: these are definitions.
+-- Kinds and counts, over the state: `set_info`, `array_in_path`, `has_dynamic`.
 use Prim.Native.Nat.{ℕ, zero, suc, _+_}
 use mathlib.Core.Bool.{Bool, false, cond, not, _&&_, _||_}
 use mathlib.Core.List.{List, [], _∷_}
@@ -23,7 +23,8 @@ dynamicAt s r count =
 
 -- "An array replaces dynamic and never lowers."
 abbrev pub arrayAt : List Node → ℕ → ℕ → List Node
-arrayAt s r count = cond (eqb (nodeOf s r .kind) kindArray && ltb count (nodeOf s r .count)) s (giveKind s r kindArray count)
+arrayAt s r count =
+    cond (eqb (nodeOf s r .kind) kindArray && ltb count (nodeOf s r .count)) s (giveKind s r kindArray count)
 
 -- `set_info` with Dynamic(count): the path r is made seen first; the root has no kind. r is a record that is there; an
 -- operation whose path may not be there makes it first (decision D23)
@@ -38,7 +39,8 @@ setArray s r count = cond (eqb r 1) s (arrayAt (makeSeen s r) r count)
 -- can take
 unfoldable pub arraysUp : ℕ → List Node → ℕ → ℕ
 arraysUp zero s r = 0
-arraysUp (suc n) s r = cond (eqb r 0) 0 (cond (eqb (nodeOf s r .kind) kindArray) 1 0 + arraysUp n s (nodeOf s r .parent))
+arraysUp (suc n) s r =
+    cond (eqb r 0) 0 (cond (eqb (nodeOf s r .kind) kindArray) 1 0 + arraysUp n s (nodeOf s r .parent))
 
 -- a parent has a lower number, so r turns are enough
 unfoldable pub arraysInPath : List Node → ℕ → ℕ
@@ -52,7 +54,8 @@ anyOf test (r ∷ rs) = test r || anyOf test rs
 -- has r, if it is seen, a kind, or does one of its children pass this test? n is as many levels as there can be
 unfoldable pub dynamicBelow : ℕ → List Node → ℕ → Bool
 dynamicBelow zero s r = false
-dynamicBelow (suc n) s r = eqb (nodeOf s r .seen) 1 && (not (eqb (nodeOf s r .kind) 0) || anyOf (dynamicBelow n s) (kidsIn s r))
+dynamicBelow (suc n) s r =
+    eqb (nodeOf s r .seen) 1 && (not (eqb (nodeOf s r .kind) 0) || anyOf (dynamicBelow n s) (kidsIn s r))
 
 -- `Info::has_dynamic`; a child has a higher number, so there are no more levels than nodes
 unfoldable pub hasDynamic : List Node → ℕ → Bool

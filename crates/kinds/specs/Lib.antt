@@ -1,2 +1,3 @@
 pub mod Kinds
 pub mod Fill
+pub mod Missing

@@ -4,10 +4,11 @@ ghost use Prim.Native.Nat.{_+_, _≤_};
 ghost use Rattle.limits.specs.Limits.{argumentWordsMax, recordsMax};
 ghost use Rattle.facts.specs.State.{nodes};
 ghost use Rattle.paths.specs.Shape.{Shaped};
-ghost use Rattle.paths.specs.Make.{missing};
-ghost use Rattle.paths.specs.Holds.{Holds};
+ghost use Rattle.paths.specs.Adds.{missing};
+ghost use Rattle.paths.specs.Represents.{Represents};
 ghost use Rattle.paths.specs.Place.{Before};
-ghost use Rattle.kinds.specs.Fill.{fill, fillMissing};
+ghost use Rattle.kinds.specs.Fill.{fill};
+ghost use Rattle.kinds.specs.Missing.{fillMissing};
 use limits::WORD_BYTES;
 use paths::find_at;
 use paths::get_or_create_after;
@@ -59,7 +60,7 @@ pub fn fill(table: &mut [u32], n: u32, used: u32, words: u32) -> u32
     requires { ⌜ Shaped (now table) used n ⌝ }
     requires { ⌜ (words ≤ argumentWordsMax) × (n ≤ recordsMax) ⌝ }
     requires { ⌜ used + fillMissing (nodes (now table) used) words ≤ n ⌝ }
-    ensures { λ u. ⌜ Holds (now (table .exit)) u n (fill (nodes (now (table .entry)) used) words) ⌝ }
+    ensures { λ u. ⌜ Represents (now (table .exit)) u n (fill (nodes (now (table .entry)) used) words) ⌝ }
     ensures { λ u. ⌜ u ≡ used + fillMissing (nodes (now (table .entry)) used) words ⌝ }
 {
     let mut reached = used;

@@ -3,7 +3,7 @@ ghost use mathlib.Core.Path.{_≡_};
 ghost use Prim.Native.Nat.{_≤_};
 ghost use Rattle.facts.specs.State.{nodes};
 ghost use Rattle.paths.specs.Shape.{Shaped};
-ghost use Rattle.paths.specs.Holds.{Holds};
+ghost use Rattle.paths.specs.Represents.{Represents};
 ghost use Rattle.kinds.specs.Kinds.{giveKind, dynamicAt, arrayAt, setDynamic, setArray, arraysInPath};
 use facts::field;
 use limits::KIND_ARRAY;
@@ -17,7 +17,7 @@ use paths::store;
 fn give_kind(table: &mut [u32], n: u32, used: u32, r: u32, kind: u32, count: u32)
     requires { ⌜ Shaped (now table) used n ⌝ }
     requires { ⌜ (1 ≤ r) × (r ≤ used) ⌝ }
-    ensures { λ _. ⌜ Holds (now (table .exit)) used n (giveKind (nodes (now (table .entry)) used) r kind count) ⌝ }
+    ensures { λ _. ⌜ Represents (now (table .exit)) used n (giveKind (nodes (now (table .entry)) used) r kind count) ⌝ }
 {
     store(table, n, used, r, KIND, kind);
     store(table, n, used, r, COUNT, count);
@@ -26,7 +26,7 @@ fn give_kind(table: &mut [u32], n: u32, used: u32, r: u32, kind: u32, count: u32
 fn dynamic_at(table: &mut [u32], n: u32, used: u32, r: u32, count: u32)
     requires { ⌜ Shaped (now table) used n ⌝ }
     requires { ⌜ (1 ≤ r) × (r ≤ used) ⌝ }
-    ensures { λ _. ⌜ Holds (now (table .exit)) used n (dynamicAt (nodes (now (table .entry)) used) r count) ⌝ }
+    ensures { λ _. ⌜ Represents (now (table .exit)) used n (dynamicAt (nodes (now (table .entry)) used) r count) ⌝ }
 {
     let kind = field(table, r, KIND);
     if kind == KIND_ARRAY {
@@ -43,7 +43,7 @@ fn dynamic_at(table: &mut [u32], n: u32, used: u32, r: u32, count: u32)
 fn array_at(table: &mut [u32], n: u32, used: u32, r: u32, count: u32)
     requires { ⌜ Shaped (now table) used n ⌝ }
     requires { ⌜ (1 ≤ r) × (r ≤ used) ⌝ }
-    ensures { λ _. ⌜ Holds (now (table .exit)) used n (arrayAt (nodes (now (table .entry)) used) r count) ⌝ }
+    ensures { λ _. ⌜ Represents (now (table .exit)) used n (arrayAt (nodes (now (table .entry)) used) r count) ⌝ }
 {
     if field(table, r, KIND) == KIND_ARRAY {
         if count < field(table, r, COUNT) {
@@ -57,7 +57,7 @@ fn array_at(table: &mut [u32], n: u32, used: u32, r: u32, count: u32)
 pub fn set_dynamic(table: &mut [u32], n: u32, used: u32, r: u32, count: u32)
     requires { ⌜ Shaped (now table) used n ⌝ }
     requires { ⌜ (1 ≤ r) × (r ≤ used) ⌝ }
-    ensures { λ _. ⌜ Holds (now (table .exit)) used n (setDynamic (nodes (now (table .entry)) used) r count) ⌝ }
+    ensures { λ _. ⌜ Represents (now (table .exit)) used n (setDynamic (nodes (now (table .entry)) used) r count) ⌝ }
 {
     if r == 1 {
         return;
@@ -70,7 +70,7 @@ pub fn set_dynamic(table: &mut [u32], n: u32, used: u32, r: u32, count: u32)
 pub fn set_array(table: &mut [u32], n: u32, used: u32, r: u32, count: u32)
     requires { ⌜ Shaped (now table) used n ⌝ }
     requires { ⌜ (1 ≤ r) × (r ≤ used) ⌝ }
-    ensures { λ _. ⌜ Holds (now (table .exit)) used n (setArray (nodes (now (table .entry)) used) r count) ⌝ }
+    ensures { λ _. ⌜ Represents (now (table .exit)) used n (setArray (nodes (now (table .entry)) used) r count) ⌝ }
 {
     if r == 1 {
         return;

@@ -1,4 +1,4 @@
--- Reading a label and writing it back changes nothing, and a label that was written is read again. Assumes nothing.
+-- Reading a label and writing it back changes nothing, and a label that was written is read again.
 use Prim.Native.Nat.{ℕ, zero, suc, _+_, _^_, _≤_, _<_}
 use mathlib.Core.Path.{_≡_, refl, sym, ap, _∙_}
 use mathlib.Core.Bool.{Bool, true, cond, _&&_}
@@ -12,7 +12,8 @@ use lib.Dec.{eqb, leb}
 use lib.ListN.{length, getD, set, replicate, length-append, List·getD-append}
 use lib.Seq.{sets, length-sets, set-getD}
 use Rattle.limits.specs.Between.{between}
-use Rattle.limits.specs.Layout.{labelWidth, labelOffset, labelPath, labelAdded, labelMasked, labelMask, labelCallData, labelArgument, labelZeroTest, slotWidth, slotLabel}
+use Rattle.limits.specs.Layout.{labelWidth, labelOffset, labelPath, labelAdded, labelMasked, labelMask, labelCallData}
+use Rattle.limits.specs.Layout.{labelArgument, labelZeroTest, slotWidth, slotLabel}
 use Rattle.word.specs.Numbers.{limbAt, limbsAt, numbersOf}
 use Rattle.word.proofs.Comparisons.{both-true}
 use Rattle.word.proofs.EightNumbers.{getD-sets, read-written, written-read}
@@ -23,11 +24,14 @@ use Rattle.labels.specs.declared.Mask.the-variants.{Unmasked, Masked}
 use Rattle.labels.specs.declared.Val.{Val}
 use Rattle.labels.specs.declared.Element.{Element}
 use Rattle.labels.specs.Label.{maskAt, valAt, labelAt, maskNumbers, valNumbers, labelNumbers}
-use Rattle.labels.specs.Step.{elementAt, elementNumbers}
+use Rattle.labels.specs.Step.{elementAt}
+use Rattle.labels.specs.Elements.{elementNumbers}
 use Rattle.zeros.specs.Zeros.{zeros}
 use Rattle.zeros.proofs.Laws.{zeros-each}
 use Rattle.labels.specs.Formed.{isMask, isLabel}
-use Rattle.labels.proofs.Readings.{mask-there, no-mask, val-read, arg-read, zero-read, data-read, none-read, element-read}
+use Rattle.labels.specs.Read.{ReadAs}
+use Rattle.labels.proofs.Readings.{mask-there, no-mask, val-read, arg-read, zero-read, data-read, none-read}
+use Rattle.labels.proofs.Readings.{element-read}
 
 -- reading and then writing
 module _ (s : List ℕ) where
@@ -214,3 +218,10 @@ slot-read s at fits e =
         getD-sets s (elementNumbers e) at i (omega (arith, n, fits, length-append (numbersOf (e .word)) (labelNumbers (e .label)))) (omega (arith, l, length-append (numbersOf (e .word)) (labelNumbers (e .label))))
         ∙ List·getD-append (numbersOf (e .word)) (labelNumbers (e .label)) 0 i l
         ∙ sym (getD-sets s (numbersOf (e .word)) at i (omega (arith, fits)) l)
+
+-- what is promised of a label that is read
+pub read-as : (s : List ℕ) (at : ℕ) (l : Label) → l ≡ labelAt s at → ReadAs s at l
+read-as s at l e = record {
+  is = e;
+  numbers = λ small used f. ap (λ (x : Label). sets s at (labelNumbers x)) e ∙ label-kept s small at used f;
+}

@@ -1,10 +1,12 @@
--- What is read of a label. Assumes nothing.
+-- What is read of a label.
 use Prim.Native.Nat.{ℕ, _+_}
 use mathlib.Core.Path.{_≡_}
 use mathlib.Core.List.{List}
 use borrow.Author.Tests.{eq-eqb, ne-eqb}
 use lib.ListN.{getD}
-use Rattle.limits.specs.Layout.{labelOffset, labelPath, labelAdded, labelMasked, labelMask, labelCallData, labelArgument, labelZeroTest, slotLabel, stepOp, stepPc, stepFirst, stepSecond, stepPick, stepLoad}
+use Rattle.limits.specs.Layout.{labelOffset, labelPath, labelAdded, labelMasked, labelMask, labelCallData}
+use Rattle.limits.specs.Layout.{labelArgument, labelZeroTest, slotLabel, stepOp, stepPc, stepFirst, stepSecond}
+use Rattle.limits.specs.Layout.{stepPick, stepLoad}
 use Rattle.word.specs.Numbers.{limbsAt}
 use Rattle.word.specs.declared.U256.{U256}
 use Rattle.labels.specs.declared.Label.{Label}

@@ -1,4 +1,4 @@
--- What a step writes to the stack and the memory. Assumes nothing.
+-- What a step writes to the stack and the memory.
 use Prim.Native.Nat.{ℕ, _+_, _*_, _≤_, _<_}
 use mathlib.Core.Path.{_≡_, refl, ap, _∙_}
 use mathlib.Core.Bool.{Bool, true, false, cond, not}
@@ -12,7 +12,8 @@ use Rattle.limits.specs.Layout.{slotWidth, slotLabel, entryWidth, entryReplaced
 use Rattle.labels.specs.declared.Label.{Label}
 use Rattle.labels.specs.Label.{labelAt, labelNumbers}
 use Rattle.labels.specs.Operands.{isLengthOf}
-use Rattle.labels.specs.Stack.{topOf, withTopLabel, withTopWord, entryOf, withPickLabel, withPickOne, slotOne, entryOne, eachTo}
+use Rattle.labels.specs.Stack.{topOf, withTopLabel, withTopWord, entryOf, withPickLabel, withPickOne, slotOne}
+use Rattle.labels.specs.Stack.{entryOne, eachTo}
 use Rattle.labels.specs.Step.{smallWord}
 
 -- the top slot

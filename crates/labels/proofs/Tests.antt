@@ -1,4 +1,4 @@
--- What the code's tests of labels answer is what the definitions say. Assumes nothing.
+-- What the code's tests of labels answer is what the definitions say.
 use Prim.Native.Nat.{ℕ, zero, suc, _+_, _≤_, _<_}
 use mathlib.Core.Path.{_≡_, refl, sym, ap, _∙_}
 use mathlib.Core.Bool.{Bool, true, false, _&&_, and-false}
@@ -10,7 +10,8 @@ use native.Mathlib.Omega.{arith}
 use borrow.Author.Tests.{eq-eqb, ne-eqb, le-leb, lt-leb}
 use lib.Dec.{eqb, leb}
 use lib.ListN.{getD}
-use Rattle.limits.specs.Layout.{labelOffset, labelPath, labelMasked, labelMask, labelCallData, labelZeroTest, entryReplaced, entryLabel}
+use Rattle.limits.specs.Layout.{labelOffset, labelPath, labelMasked, labelMask, labelCallData, labelZeroTest}
+use Rattle.limits.specs.Layout.{entryReplaced, entryLabel}
 use Rattle.zeros.specs.Zeros.{allTo, zeros}
 use Rattle.labels.specs.Formed.{isMask, isLabel, isEntry}
 

@@ -1,5 +1,4 @@
--- Question 5: "Are all labels and replaced marks well formed, each path of kind 2 or 3 a used record?" Assumes nothing:
--- these are definitions.
+-- Question 5: "Are all labels and replaced marks well formed, each path of kind 2 or 3 a used record?" (decision D25)
 use Prim.Native.Nat.{ℕ, _+_, _-_, _*_, _/_}
 use mathlib.Core.Bool.{Bool, cond, _&&_}
 use mathlib.Core.List.{List}
@@ -7,11 +6,14 @@ use lib.Dec.{eqb, leb}
 use lib.ListN.{length, getD}
 use Rattle.zeros.specs.Zeros.{allTo, zeros}
 use Rattle.limits.specs.Between.{between}
-use Rattle.limits.specs.Layout.{wordWidth, labelWidth, labelOffset, labelPath, labelMasked, labelMask, labelCallData, labelZeroTest, slotWidth, slotLabel, entryWidth, entryReplaced, entryLabel}
+use Rattle.limits.specs.Layout.{wordWidth, labelWidth, labelOffset, labelPath, labelMasked, labelMask, labelCallData}
+use Rattle.limits.specs.Layout.{labelZeroTest, slotWidth, slotLabel, entryWidth, entryReplaced, entryLabel}
 
 -- "masked (0 or 1)"; "an unmasked mask" has "zero in what they don't use"
 abbrev pub isMask : List ℕ → ℕ → Bool
-isMask s at = cond (eqb (getD s (at + labelMasked) 0) 0) (zeros s (at + labelMask) wordWidth) (eqb (getD s (at + labelMasked) 0) 1)
+isMask s at =
+    cond (eqb (getD s (at + labelMasked) 0) 0) (zeros s (at + labelMask) wordWidth)
+    (eqb (getD s (at + labelMasked) 0) 1)
 
 -- is the label at `at` well formed? "Kinds 0 and 1 .. have zero in what they don't use"; "each path of kind 2 or 3 a
 -- used record"

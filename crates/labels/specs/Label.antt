@@ -1,12 +1,12 @@
 -- A label's 13 numbers: "kind 0 to 3 in that order, offset, path (a record number), added value, masked (0 or 1),
--- mask". Assumes nothing: these are
--- definitions.
+-- mask".
 use Prim.Native.Nat.{ℕ, _+_}
 use mathlib.Core.Bool.{cond}
 use mathlib.Core.List.{List, _∷_}
 use lib.Dec.{eqb}
 use lib.ListN.{getD, replicate}
-use Rattle.limits.specs.Layout.{labelWidth, labelOffset, labelPath, labelAdded, labelMasked, labelMask, labelCallData, labelArgument, labelZeroTest}
+use Rattle.limits.specs.Layout.{labelWidth, labelOffset, labelPath, labelAdded, labelMasked, labelMask, labelCallData}
+use Rattle.limits.specs.Layout.{labelArgument, labelZeroTest}
 use Rattle.word.specs.Numbers.{limbsAt, numbersOf}
 use Rattle.labels.specs.declared.Label.{Label}
 use Rattle.labels.specs.declared.Label.the-variants.{Unlabelled, CallData, Arg, IsZeroResult}

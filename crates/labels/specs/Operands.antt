@@ -1,5 +1,4 @@
--- What a step asks of its operands: the Rust's patterns `elabel!` and `match_first_two!`. Assumes nothing: these are
--- definitions.
+-- What a step asks of its operands: the Rust's patterns `elabel!` and `match_first_two!`.
 use Prim.Native.Nat.{ℕ}
 use mathlib.Core.Bool.{Bool, true, false, cond, _&&_}
 use lib.Dec.{eqb}
@@ -9,6 +8,8 @@ use Rattle.labels.specs.declared.Mask.{Mask}
 use Rattle.labels.specs.declared.Mask.the-variants.{Unmasked, Masked}
 use Rattle.labels.specs.declared.Val.{Val}
 use Rattle.labels.specs.declared.Element.{Element}
+use Rattle.labels.specs.declared.Pattern.{Pattern}
+use Rattle.labels.specs.declared.Pattern.the-variants as pattern
 use Rattle.labels.specs.declared.Choice.{Choice}
 use Rattle.labels.specs.declared.Choice.the-variants.{Chosen, Neither}
 
@@ -32,27 +33,27 @@ abbrev pub isUnmasked : Mask → Bool
 isUnmasked Unmasked = true
 isUnmasked (Masked m) = false
 
--- the patterns of a label that the arms ask for: any; `offset: 0, add_val: 0`; these with `and_mask: None`; `and_mask:
--- None`
-abbrev pub isAny : Val → Bool
-isAny v = true
-
+-- `offset: 0, add_val: 0`
 unfoldable pub isLength : Val → Bool
 isLength v = eqb (v .offset) 0 && eqb (v .«add_val») 0
 
-unfoldable pub isPlainLength : Val → Bool
-isPlainLength v = isLength v && isUnmasked (v .«and_mask»)
+-- these with `and_mask: None`
+unfoldable pub isUnmaskedLength : Val → Bool
+isUnmaskedLength v = isLength v && isUnmasked (v .«and_mask»)
 
-unfoldable pub isPlain : Val → Bool
-isPlain v = isUnmasked (v .«and_mask»)
+-- does what a label says pass an arm's pattern? `and_mask: None` is the last
+unfoldable pub passes : Pattern → Val → Bool
+passes pattern.Any v = true
+passes pattern.Length v = isLength v
+passes pattern.NoMask v = isUnmasked (v .«and_mask»)
 
 -- the operand e, if it is an argument that passes, beside the other one; otherwise d
-abbrev pub chosenOr : (Val → Bool) → Element → Element → Choice → Choice
-chosenOr test e other d = onArg (e .label) (λ v. cond (test v) (Chosen v (e .word) other) d) d
+abbrev pub chosenOr : Pattern → Element → Element → Choice → Choice
+chosenOr p e other d = onArg (e .label) (λ v. cond (passes p v) (Chosen v (e .word) other) d) d
 
 -- `match_first_two!`: the first operand if it is an argument that passes, else the second if it is one
-unfoldable pub choose : (Val → Bool) → Element → Element → Choice
-choose test a b = chosenOr test a b (chosenOr test b a Neither)
+unfoldable pub choose : Pattern → Element → Element → Choice
+choose p a b = chosenOr p a b (chosenOr p b a Neither)
 
 -- do two labels speak of one argument with one constant added?
 unfoldable pub sameArg : Val → Val → Bool

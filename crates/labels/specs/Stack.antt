@@ -1,4 +1,4 @@
--- What a step writes to the stack and the memory. "The top is the last slot." Assumes nothing: these are definitions.
+-- What a step writes to the stack and the memory. "The top is the last slot." (decision D24)
 use Prim.Native.Nat.{ℕ, zero, suc, _+_, _-_, _*_, _/_}
 use mathlib.Core.Bool.{cond}
 use mathlib.Core.List.{List, [], _∷_}
@@ -23,7 +23,8 @@ withTopLabel stack l = sets stack (topOf stack + slotLabel) (labelNumbers l)
 unfoldable pub withTopWord : List ℕ → ℕ → List ℕ
 withTopWord stack n = sets stack (topOf stack) (smallWord n)
 
--- "Pick is the number from 1 of the entry that `Memory::get_mut` finds, 0 for none."
+-- "Pick is the number from 1 of the entry that `Memory::get_mut` finds, 0 for none." It is taken as handed in (decision
+-- D19)
 abbrev pub entryOf : ℕ → ℕ
 entryOf pick = (pick - 1) * entryWidth
 
@@ -37,11 +38,14 @@ withPickOne memory pick = cond (eqb pick 0) memory (sets memory (entryOf pick + 
 
 -- the word 1 in slot i, if it holds the length at that path
 abbrev pub slotOne : ℕ → List ℕ → ℕ → List ℕ
-slotOne path s i = cond (isLengthOf path (labelAt s (i * slotWidth + slotLabel))) (sets s (i * slotWidth) (smallWord 1)) s
+slotOne path s i =
+    cond (isLengthOf path (labelAt s (i * slotWidth + slotLabel))) (sets s (i * slotWidth) (smallWord 1)) s
 
 -- the replaced mark of entry i, if it holds the length at that path
 abbrev pub entryOne : ℕ → List ℕ → ℕ → List ℕ
-entryOne path s i = cond (isLengthOf path (labelAt s (i * entryWidth + entryLabel))) (sets s (i * entryWidth + entryReplaced) (1 ∷ [])) s
+entryOne path s i =
+    cond (isLengthOf path (labelAt s (i * entryWidth + entryLabel)))
+    (sets s (i * entryWidth + entryReplaced) (1 ∷ [])) s
 
 -- change, at the indices below n one after the other
 unfoldable pub eachTo : (List ℕ → ℕ → List ℕ) → ℕ → List ℕ → List ℕ

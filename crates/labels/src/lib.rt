@@ -10,13 +10,11 @@ mod write;
 pub use check::are_entries;
 pub use check::are_slots;
 pub use check::is_label;
-pub use operands::choose_any;
-pub use operands::choose_length;
-pub use operands::choose_plain;
+pub use operands::choose;
 pub use operands::is_length;
 pub use operands::is_length_of;
-pub use operands::is_plain_length;
 pub use operands::is_unmasked;
+pub use operands::is_unmasked_length;
 pub use operands::same_arg;
 pub use read::read_element;
 pub use read::read_label;
@@ -74,4 +72,12 @@ pub struct Step {
 pub enum Choice {
     Chosen(Val, U256, Element),
     Neither,
+}
+
+// Which labels of an argument an arm's pattern takes: any, those with `offset: 0, add_val: 0`, those with `and_mask:
+// None`.
+pub enum Pattern {
+    Any,
+    Length,
+    NoMask,
 }

@@ -1,10 +1,12 @@
 // What a step asks of its operands' labels.
 ghost use mathlib.Core.Path.{_≡_};
-ghost use Rattle.labels.specs.Operands.{isAny, isUnmasked, isLength, isPlainLength, isPlain, choose, chosenOr, sameArg, isLengthOf};
+ghost use Rattle.labels.specs.Operands.{isUnmasked, isLength, isUnmaskedLength, passes, choose, chosenOr};
+ghost use Rattle.labels.specs.Operands.{sameArg, isLengthOf};
 use crate::Choice;
 use crate::Element;
 use crate::Label;
 use crate::Mask;
+use crate::Pattern;
 use crate::Val;
 
 pub fn is_unmasked(mask: Mask) -> bool
@@ -24,78 +26,46 @@ pub fn is_length(val: Val) -> bool
 }
 
 // Is it one with no mask?
-pub fn is_plain_length(val: Val) -> bool
-    ensures { λ r. ⌜ r ≡ isPlainLength val ⌝ }
+pub fn is_unmasked_length(val: Val) -> bool
+    ensures { λ r. ⌜ r ≡ isUnmaskedLength val ⌝ }
 {
     let mask = val.and_mask;
     is_length(val) & is_unmasked(mask)
 }
 
-fn is_plain(val: Val) -> bool
-    ensures { λ r. ⌜ r ≡ isPlain val ⌝ }
+// Does what a label says pass an arm's pattern?
+fn passes(pattern: Pattern, val: Val) -> bool
+    ensures { λ r. ⌜ r ≡ passes pattern val ⌝ }
 {
-    let mask = val.and_mask;
-    is_unmasked(mask)
+    match pattern {
+        Pattern::Any => true,
+        Pattern::Length => is_length(val),
+        Pattern::NoMask => {
+            let mask = val.and_mask;
+            is_unmasked(mask)
+        }
+    }
 }
 
-fn any_or(e: Element, other: Element, d: Choice) -> Choice
-    ensures { λ r. ⌜ r ≡ chosenOr isAny e other d ⌝ }
+fn chosen_or(pattern: Pattern, e: Element, other: Element, d: Choice) -> Choice
+    ensures { λ r. ⌜ r ≡ chosenOr pattern e other d ⌝ }
 {
     let label = e.label;
     let Label::Arg(val) = label else {
         return d;
     };
-    let word = e.word;
-    Choice::Chosen(val, word, other)
-}
-
-// The first operand that is an argument.
-pub fn choose_any(a: Element, b: Element) -> Choice
-    ensures { λ r. ⌜ r ≡ choose isAny a b ⌝ }
-{
-    any_or(a, b, any_or(b, a, Choice::Neither))
-}
-
-fn length_or(e: Element, other: Element, d: Choice) -> Choice
-    ensures { λ r. ⌜ r ≡ chosenOr isLength e other d ⌝ }
-{
-    let label = e.label;
-    let Label::Arg(val) = label else {
-        return d;
-    };
-    if is_length(val) {
+    if passes(pattern, val) {
         let word = e.word;
         return Choice::Chosen(val, word, other);
     }
     d
 }
 
-// The first operand that is a length.
-pub fn choose_length(a: Element, b: Element) -> Choice
-    ensures { λ r. ⌜ r ≡ choose isLength a b ⌝ }
+// The first operand that is an argument and passes the pattern.
+pub fn choose(pattern: Pattern, a: Element, b: Element) -> Choice
+    ensures { λ r. ⌜ r ≡ choose pattern a b ⌝ }
 {
-    length_or(a, b, length_or(b, a, Choice::Neither))
-}
-
-fn plain_or(e: Element, other: Element, d: Choice) -> Choice
-    ensures { λ r. ⌜ r ≡ chosenOr isPlain e other d ⌝ }
-{
-    let label = e.label;
-    let Label::Arg(val) = label else {
-        return d;
-    };
-    if is_plain(val) {
-        let word = e.word;
-        return Choice::Chosen(val, word, other);
-    }
-    d
-}
-
-// The first operand that is an argument with no mask.
-pub fn choose_plain(a: Element, b: Element) -> Choice
-    ensures { λ r. ⌜ r ≡ choose isPlain a b ⌝ }
-{
-    plain_or(a, b, plain_or(b, a, Choice::Neither))
+    chosen_or(pattern, a, b, chosen_or(pattern, b, a, Choice::Neither))
 }
 
 // Do two labels speak of one argument with one constant added?

@@ -3,7 +3,8 @@ ghost use mathlib.Core.Path.{_≡_};
 ghost use Prim.Native.Nat.{_+_, _≤_};
 ghost use lib.ListN.{length};
 ghost use Rattle.limits.specs.Layout.{labelWidth, slotWidth};
-ghost use Rattle.labels.specs.Label.{maskAt, valAt, labelAt};
+ghost use Rattle.labels.specs.Label.{maskAt, valAt};
+ghost use Rattle.labels.specs.Read.{ReadAs};
 ghost use Rattle.labels.specs.Step.{elementAt};
 use crate::Element;
 use crate::Label;
@@ -46,7 +47,7 @@ fn read_val(s: &[u32], at: usize) -> Val
 // The label at an index of s.
 pub fn read_label(s: &[u32], at: usize) -> Label
     requires { ⌜ at + labelWidth ≤ length (now s) ⌝ }
-    ensures { λ r. ⌜ r ≡ labelAt (now (s .entry)) at ⌝ }
+    ensures { λ r. ⌜ ReadAs (now (s .entry)) at r ⌝ }
 {
     let kind = s[at];
     if kind == LABEL_ARGUMENT {

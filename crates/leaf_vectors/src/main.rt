@@ -1,7 +1,7 @@
-// Runs the leaves on the vectors of standard input and writes a line for each: its name, and what the leaf answers.
-// A vector is 192 bytes: name (40), kind, code length, flag, name length, number (4), word (32), second word (32), code
-// (80); numbers and words are
-// highest byte first. tools/leaf_vectors.py makes them, and the answers from a model of its own.
+// Runs the leaves on the vectors of standard input and writes a line for each: its name, and what the leaf answers. A
+// vector is 192 bytes: name (40), kind, code length, flag, name length, number (4), word (32), second word (32), code
+// (80); numbers and words are highest byte first. tools/leaf_vectors.py makes them, and the answers from a model of its
+// own.
 mod answer;
 mod vector;
 

@@ -1,4 +1,4 @@
--- A test that the definitions share. Assumes nothing.
+-- A test that the definitions share.
 use Prim.Native.Nat.{ℕ}
 use mathlib.Core.Bool.{Bool, _&&_}
 use lib.Dec.{leb}

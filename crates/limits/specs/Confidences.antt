@@ -1,7 +1,5 @@
--- "Confidences: BYTE 4; AND and double ISZERO 5; range 6; SDIV, SMOD 8; bytes 10; MSTORE8 12; the rest 20." Assumes
--- nothing.
+-- "Confidences: BYTE 4; AND and double ISZERO 5; range 6; SDIV, SMOD 8; bytes 10; MSTORE8 12; the rest 20."
 use Prim.Native.Nat.{ℕ}
-use Rattle.limits.specs.Limits.{rangeConfidence}
 
 abbrev pub byByte : ℕ
 byByte = 4
@@ -11,7 +9,7 @@ abbrev pub byAndOrIsZero : ℕ
 byAndOrIsZero = 5
 
 abbrev pub byRange : ℕ
-byRange = rangeConfidence
+byRange = 6
 
 -- SDIV and SMOD
 abbrev pub bySdivOrSmod : ℕ

@@ -1,5 +1,5 @@
 -- The places of a record's numbers, from 0: "key, parent, child, next, seen, not-bool, blocked, kind, count, name,
--- confidence". Assumes nothing.
+-- confidence".
 use Prim.Native.Nat.{ℕ}
 
 abbrev pub key : ℕ

@@ -1,5 +1,4 @@
--- "Lines of the trace printer": the sizes of its input, and the places of its numbers, from 0. Assumes nothing: these
--- are definitions.
+-- "Lines of the trace printer": the sizes of its input, and the places of its numbers, from 0.
 use Prim.Native.Nat.{ℕ}
 
 -- "Here code is at most 24,576 bytes, slots and entries 256 each; the table has 1,480 records."

@@ -1,4 +1,4 @@
--- The places of the numbers of a label, a slot, an entry and a step, from 0. Assumes nothing.
+-- The places of the numbers of a label, a slot, an entry and a step, from 0.
 use Prim.Native.Nat.{ℕ}
 
 -- "256-bit words as eight of them"

@@ -5,5 +5,4 @@ pub mod Fields
 pub mod Input
 pub mod Layout
 pub mod Limits
-pub mod Questions
 pub mod Refusal

@@ -1,4 +1,4 @@
--- The numbers of document 01, by the names that the definitions use. Assumes nothing.
+-- The numbers of document 01, by the names that the definitions use.
 use Prim.Native.Nat.{ℕ}
 
 -- bytes of an EVM word (Yellow Paper, 9.1: "The word size of the machine (and thus size of stack items) is 256-bit")
@@ -60,10 +60,6 @@ confidenceMax = 20
 abbrev pub argumentWordsMax : ℕ
 argumentWordsMax = 4096
 
--- "Confidences: .. range 6"
-abbrev pub rangeConfidence : ℕ
-rangeConfidence = 6
-
 -- "Is the code at most 65,536 bytes?"
 abbrev pub codeMax : ℕ
 codeMax = 65536
@@ -82,3 +78,7 @@ loadMax = 130047
 -- demand 3: "no fact lies deeper than 64"; the Rust's `MAX_ARGUMENT_DEPTH`
 abbrev pub depthMax : ℕ
 depthMax = 64
+
+-- demand 3: "nests at most 129 levels"
+abbrev pub levelsMax : ℕ
+levelsMax = 129

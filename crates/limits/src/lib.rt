@@ -1,14 +1,14 @@
-// The numbers of document 01, each named once for the code; specs/ has the same names for the definitions.
-// A number joins this list with the first function that needs it.
+// The numbers of document 01, each named once for the code; specs/ has the same names for the definitions. A number
+// joins this list with the first function that needs it.
 pub mod codes;
 pub mod confidences;
 pub mod fields;
 pub mod input;
 pub mod layout;
-pub mod questions;
 mod refusal;
 
 pub use refusal::Refusal;
+pub use refusal::TAKEN;
 pub use refusal::number_of;
 
 // Bytes of an EVM word. Keys, offsets and multipliers count in bytes, arguments and counts in words.
@@ -51,9 +51,6 @@ pub const DYNAMIC_COUNT_MAX: u32 = 134217727;
 
 // "Confidence is 1 to 20 with a name".
 pub const CONFIDENCE_MAX: u32 = 20;
-
-// "Confidences: .. range 6": the confidence of a range name.
-pub const RANGE_CONFIDENCE: u32 = 6;
 
 // "Is the code at most 65,536 bytes?"
 pub const CODE_MAX: usize = 65536;

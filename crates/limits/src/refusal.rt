@@ -1,17 +1,9 @@
 // Which question was answered with no.
 ghost use mathlib.Core.Path.{_≡_};
 ghost use Rattle.limits.specs.Refusal.{numberOf};
-use crate::questions::CODE_QUESTION;
-use crate::questions::COUNT_QUESTION;
-use crate::questions::FIELDS_QUESTION;
-use crate::questions::LABELS_QUESTION;
-use crate::questions::ROOM_QUESTION;
-use crate::questions::SIZES_QUESTION;
-use crate::questions::SLICE_QUESTION;
-use crate::questions::SLOT_QUESTION;
-use crate::questions::SOUND_QUESTION;
-use crate::questions::TEXT_QUESTION;
-use crate::questions::TYPES_QUESTION;
+
+// The number of a call that is taken, which is ours.
+pub const TAKEN: u32 = 0;
 
 // The questions in the order of their numbers, each by what a "no" says.
 pub enum Refusal {
@@ -33,16 +25,16 @@ pub fn number_of(refusal: Refusal) -> u32
     ensures { λ r. ⌜ r ≡ numberOf refusal ⌝ }
 {
     match refusal {
-        Refusal::NoRecords => COUNT_QUESTION,
-        Refusal::Unsound => SOUND_QUESTION,
-        Refusal::LongCode => CODE_QUESTION,
-        Refusal::BrokenSizes => SIZES_QUESTION,
-        Refusal::BrokenLabels => LABELS_QUESTION,
-        Refusal::BrokenFields => FIELDS_QUESTION,
-        Refusal::NoSlot => SLOT_QUESTION,
-        Refusal::NoRoom => ROOM_QUESTION,
-        Refusal::ShortTypes => SLICE_QUESTION,
-        Refusal::BadTypes => TYPES_QUESTION,
-        Refusal::ShortText => TEXT_QUESTION,
+        Refusal::NoRecords => 1,
+        Refusal::Unsound => 2,
+        Refusal::LongCode => 3,
+        Refusal::BrokenSizes => 4,
+        Refusal::BrokenLabels => 5,
+        Refusal::BrokenFields => 6,
+        Refusal::NoSlot => 7,
+        Refusal::NoRoom => 8,
+        Refusal::ShortTypes => 9,
+        Refusal::BadTypes => 10,
+        Refusal::ShortText => 11,
     }
 }

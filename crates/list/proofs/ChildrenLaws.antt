@@ -1,4 +1,4 @@
--- A fact's seen children, one record of the chain a turn. Assumes nothing.
+-- A fact's seen children, one record of the chain a turn.
 use Prim.Native.Nat.{ℕ, zero, suc, _+_, _/_, _≤_, _<_, _^_, max}
 use mathlib.Core.Path.{_≡_, refl, sym, ap, _∙_}
 use mathlib.Core.Bool.{Bool, true, false, _&&_, cond}
@@ -9,11 +9,12 @@ use lib.ListN.{length}
 use borrow.Author.Tests.{eq-eqb, ne-eqb}
 use Rattle.limits.specs.Limits.{wordBytes}
 use Rattle.facts.specs.Table.{keyOf, childOf, nextOf, seenOf, kindOf, countOf}
-use Rattle.facts.specs.State.{Node, nodes, nodeOf, ins, kids, kidsIn, kidsOf}
+use Rattle.facts.specs.State.{Node, nodes, nodeOf, ins, kids, kidsIn}
+use Rattle.facts.specs.Linked.{kidsOf}
 use Rattle.facts.proofs.Encode.{length-nodes, nodes-get, kids-nodes}
 use Rattle.paths.specs.Shape.{Shaped}
 use Rattle.paths.proofs.Tail.{Tail, More, tail-more, tail-none, tail-start, tail-kid}
-use Rattle.list.specs.Seen.{seenOnes, childrenIn, isEmpty, isLonePlain, lastFrom, lastKey, lastWord}
+use Rattle.list.specs.Seen.{seenOnes, childrenIn, isEmpty, isLoneKindless, lastFrom, lastKey, lastWord}
 use Rattle.list.specs.Looks.{kindFrom, Looked}
 use Rattle.list.specs.declared.Children.{Children}
 
@@ -154,7 +155,7 @@ pub empty-is : (ms : List ℕ) → isEmpty ms ≡ eqb (length ms) 0
 empty-is [] = refl
 empty-is (m ∷ ms) = sym (ne-eqb (suc (length ms)) 0 (λ e. omega arith))
 
-pub lone-is : (s : List Node) (ms : List ℕ) → isLonePlain s ms ≡ (eqb (length ms) 1 && eqb (kindFrom s 0 ms) 0)
+pub lone-is : (s : List Node) (ms : List ℕ) → isLoneKindless s ms ≡ (eqb (length ms) 1 && eqb (kindFrom s 0 ms) 0)
 unfolding kindFrom
 lone-is s [] = refl
 lone-is s (m ∷ []) = refl

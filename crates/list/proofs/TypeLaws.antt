@@ -1,5 +1,5 @@
 -- The type of a fact in terms of its children's types: how many levels are allowed tells nothing, once there are
--- enough. Assumes nothing.
+-- enough.
 use Prim.Native.Nat.{ℕ, zero, suc, _-_, _*_, _/_, _≤_, _<_, max}
 use mathlib.Core.Path.{_≡_, refl, ap}
 use mathlib.Core.Bool.{Bool, true, false, false≢true, cond, not, _&&_}
@@ -16,7 +16,8 @@ use Rattle.paths.specs.Find.{findIn}
 use Rattle.paths.specs.Order.{Ordered}
 use Rattle.paths.proofs.Lookups.{found-node, found-above}
 use Rattle.list.specs.Seen.{childrenIn, isEmpty, lastKey, lastWord}
-use Rattle.list.specs.Types.{uint256, nameHolds, endKey, startWord, wordCount, byKind, hasWord, wordsWith, typeAt, typeOf}
+use Rattle.list.specs.Types.{uint256, nameHolds, endKey, startWord, wordCount, byKind, hasWord, wordsWith, typeAt}
+use Rattle.list.specs.Types.{typeOf}
 
 -- a list has as many types as it has words
 pub count-words : (f : ℕ → AbiType) (s : List Node) (r w n : ℕ) → count (wordsWith f s r w n) ≡ n

@@ -1,6 +1,5 @@
 -- The budget: "`fits_type_budget` starts at depth 0 with 8,192. A node costs one more than its last word .. left is
--- 8,192 less the sum." Assumes nothing: these are
--- definitions.
+-- 8,192 less the sum."
 use Prim.Native.Nat.{ℕ, zero, suc, _+_}
 use mathlib.Core.Bool.{Bool, true, cond, not, _&&_, _||_}
 use mathlib.Core.List.{List}

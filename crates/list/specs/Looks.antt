@@ -1,4 +1,4 @@
--- What the walks ask of a fact's seen children, all at once. Assumes nothing: these are definitions.
+-- What the walks ask of a fact's seen children, all at once.
 use Prim.Native.Nat.{ℕ}
 use mathlib.Core.Path.{_≡_}
 use mathlib.Core.List.{List, [], _∷_}

@@ -1,6 +1,5 @@
 -- What the walks over the facts look at: a fact's seen children. "A record that isn't seen is no node of `Info`", so it
--- is passed over here. Assumes nothing:
--- these are definitions.
+-- is passed over here.
 use Prim.Native.Nat.{ℕ, _/_, max}
 use mathlib.Core.Bool.{Bool, true, false, cond}
 use mathlib.Core.List.{List, [], _∷_}
@@ -37,7 +36,7 @@ unfoldable pub lastWord : List Node → ℕ → ℕ
 lastWord s r = max (lastKey s r / wordBytes) (nodeOf s r .count)
 
 -- is there exactly one, and has it no kind?
-abbrev pub isLonePlain : List Node → List ℕ → Bool
-isLonePlain s [] = false
-isLonePlain s (r ∷ []) = eqb (nodeOf s r .kind) 0
-isLonePlain s (r ∷ q ∷ rs) = false
+abbrev pub isLoneKindless : List Node → List ℕ → Bool
+isLoneKindless s [] = false
+isLoneKindless s (r ∷ []) = eqb (nodeOf s r .kind) 0
+isLoneKindless s (r ∷ q ∷ rs) = false

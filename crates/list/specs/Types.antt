@@ -1,4 +1,4 @@
--- The list: the Rust's `to_alloy_type` over the facts, as types. Assumes nothing: these are definitions.
+-- The list: the Rust's `to_alloy_type` over the facts, as types.
 use Prim.Native.Nat.{ℕ, zero, suc, _-_, _*_, max}
 use mathlib.Core.Bool.{Bool, cond, not, _&&_, _||_}
 use mathlib.Core.List.{List}
@@ -10,15 +10,15 @@ use Rattle.names.specs.Elementary.{bytes, uint, ofCode}
 use Rattle.types.specs.Tree.{AbiType, AbiTypes, elementary, array, tuple, nil, cons}
 use Rattle.facts.specs.State.{Node, nodeOf}
 use Rattle.paths.specs.Find.{findIn}
-use Rattle.list.specs.Seen.{childrenIn, isEmpty, isLonePlain, lastKey, lastWord}
+use Rattle.list.specs.Seen.{childrenIn, isEmpty, isLoneKindless, lastKey, lastWord}
 
 -- what the Rust gives where nothing is known: `DynSolType::Uint(256)`
 abbrev pub uint256 : AbiType
 uint256 = elementary (uint 256)
 
 -- is the name the type? bytes with kind none or dynamic 1, whatever the children; any other name with no children and
--- kind none or dynamic. (The Rust lets bytes hold with an array of count 0 too, which question 2 refuses:
--- decision D44.)
+-- kind none or dynamic. (The Rust lets bytes hold with an array of count 0 too, which question 2 refuses: decision
+-- D44.)
 unfoldable pub nameHolds : Node → Bool → Bool
 nameHolds n childless =
     cond (eqb (n .name) code.bytes)
@@ -56,7 +56,8 @@ byKind s r q =
     cond (eqb (nodeOf s r .kind) kindArray) (array (together q))
     (cond (eqb (nodeOf s r .kind) kindDynamic && eqb (endKey s r) 0 && isEmpty (childrenIn s r)) (elementary bytes)
     (cond (eqb (nodeOf s r .kind) kindDynamic && eqb (endKey s r) wordBytes && isEmpty (childrenIn s r)) (array uint256)
-    (cond (eqb (nodeOf s r .kind) kindDynamic && eqb (endKey s r) wordBytes && isLonePlain s (childrenIn s r)) (array (second q))
+    (cond (eqb (nodeOf s r .kind) kindDynamic && eqb (endKey s r) wordBytes && isLoneKindless s (childrenIn s r))
+    (array (second q))
     (together q))))
 
 -- has r a seen child at the word? "giving a child at a key such as 33 an entry with its own type" is ruled out
@@ -66,7 +67,8 @@ hasWord s r w = not (eqb (findIn s r (wordBytes * w)) 0) && eqb (nodeOf s (findI
 -- the types of n words from word w on below r, a child's by `type`
 unfoldable pub wordsWith : (ℕ → AbiType) → List Node → ℕ → ℕ → ℕ → AbiTypes
 wordsWith type s r w zero = nil
-wordsWith type s r w (suc n) = cons (cond (hasWord s r w) (type (findIn s r (wordBytes * w))) uint256) (wordsWith type s r (suc w) n)
+wordsWith type s r w (suc n) =
+    cons (cond (hasWord s r w) (type (findIn s r (wordBytes * w))) uint256) (wordsWith type s r (suc w) n)
 
 -- the type of a fact other than the root; d is as many levels as there can be
 unfoldable pub typeAt : ℕ → List Node → ℕ → AbiType

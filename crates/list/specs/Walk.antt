@@ -1,6 +1,5 @@
 -- The sum and the depth once more, at a fact and below it, as a walk that goes from a fact to its children comes to
--- them. (`spend-walk`, `shallow-walk`: from the root
--- they are the sum and the depth over all facts.) Assumes nothing: these are definitions.
+-- them. (`spend-walk`, `shallow-walk`: from the root they are the sum and the depth over all facts.)
 use Prim.Native.Nat.{ℕ, zero, suc, _+_}
 use mathlib.Core.Bool.{Bool, true, cond, not, _&&_, _||_}
 use mathlib.Core.List.{List, [], _∷_}
@@ -27,4 +26,5 @@ spendBelow (suc n) s r = cond (eqb (nodeOf s r .seen) 1) (suc (lastWord s r) + s
 -- does r, at depth d if it is seen, lie no deeper than 64, nor any below it? n as above
 unfoldable pub shallowBelow : ℕ → List Node → ℕ → ℕ → Bool
 shallowBelow zero s d r = true
-shallowBelow (suc n) s d r = not (eqb (nodeOf s r .seen) 1) || (leb d depthMax && allOf (shallowBelow n s (suc d)) (kidsIn s r))
+shallowBelow (suc n) s d r =
+    not (eqb (nodeOf s r .seen) 1) || (leb d depthMax && allOf (shallowBelow n s (suc d)) (kidsIn s r))

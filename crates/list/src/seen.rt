@@ -16,8 +16,7 @@ use limits::fields::NEXT;
 use limits::fields::SEEN;
 
 // Unseen records stand in the chain and are passed over. A record often stands in the chain right behind the one before
-// it: where it does, the walk counts on
-// instead of waiting for the number that it loads.
+// it: where it does, the walk counts on instead of waiting for the number that it loads.
 pub fn seen_children(table: &[u32], n: u32, used: u32, r: u32) -> Children
     requires { ⌜ Shaped (now table) used n ⌝ }
     requires { ⌜ (1 ≤ r) × (r ≤ used) ⌝ }

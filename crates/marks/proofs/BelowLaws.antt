@@ -1,4 +1,4 @@
--- Nodes at or below a node, and what clearing one branch after another comes to, over states. Assumes nothing.
+-- Nodes at or below a node, and what clearing one branch after another comes to, over states.
 use Prim.Native.Nat.{ℕ, zero, suc, _+_, _≤_, _<_}
 use mathlib.Core.Path.{_≡_, refl, sym, ap, _∙_}
 use mathlib.Core.Bool.{Bool, true, false, cond}
@@ -20,7 +20,8 @@ use Rattle.paths.proofs.Reach.{update-other}
 use Rattle.paths.proofs.Alike.{map-node}
 use Rattle.paths.proofs.Sounds.{update-here}
 use Rattle.marks.specs.Names.{isRange, dropName}
-use Rattle.marks.specs.Hints.{withoutRange, dropRange, clearRangeHints}
+use Rattle.marks.specs.Hints.{withoutRange, clearRangeHints}
+use Rattle.marks.specs.Dropping.{dropRange}
 use Rattle.marks.specs.Below.{upFrom, AtOrBelow, ClearsBelow}
 
 -- a dropped name leaves key and parent, and there is none to drop again

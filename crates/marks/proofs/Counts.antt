@@ -1,5 +1,4 @@
--- Which paths the operations on names, marks and hints add: one at most, the stated one, and no path moves. Assumes
--- nothing.
+-- Which paths the operations on names, marks and hints add: one at most, the stated one, and no path moves.
 use Prim.Native.Nat.{ℕ, _+_, max}
 use mathlib.Core.Path.{_≡_, refl, ap}
 use mathlib.Core.Bool.{Bool, true, false, cond, not, _&&_, _||_, and-eq-true-iff}
@@ -9,16 +8,19 @@ use lib.ListN.{length}
 use borrow.Author.Tests.{not-true, eqb-false}
 use Rattle.limits.specs.Codes as code
 use Rattle.limits.specs.Fields as field
-use Rattle.limits.specs.Limits.{rangeConfidence}
+use Rattle.limits.specs.Confidences.{byRange}
 use Rattle.facts.specs.State.{Node, nodeOf}
 use Rattle.paths.specs.Update.{update}
 use Rattle.paths.specs.Find.{findIn, getMut}
-use Rattle.paths.specs.Make.{ensure, missing, getOrCreate}
+use Rattle.paths.specs.Make.{ensure, getOrCreate}
+use Rattle.paths.specs.Adds.{missing}
 use Rattle.paths.specs.Adds.{SamePaths, AddsPath}
-use Rattle.paths.proofs.Alike.{Alike, alike-refl, alike-is, alike-trans, alike-cond, alike-update, alike-twice, alike-create, alike-ensure}
+use Rattle.paths.proofs.Alike.{Alike, alike-refl, alike-is, alike-trans, alike-cond, alike-update, alike-twice}
+use Rattle.paths.proofs.Alike.{alike-create, alike-ensure}
 use Rattle.paths.proofs.Lookups.{ensure-there, got-node}
 use Rattle.paths.proofs.Adds.{alike-same, alike-adds}
-use Rattle.marks.specs.Names.{isRange, dropName, giveName, isNotBool, nameAt, nameMade, setTname, insertNotBool, dropBoolAt, dropBool, markNotBool}
+use Rattle.marks.specs.Names.{isRange, dropName, giveName, isNotBool, nameAt, nameMade, setTname, insertNotBool}
+use Rattle.marks.specs.Names.{dropBoolAt, dropBool, markNotBool}
 use Rattle.marks.specs.Hints.{clearAt, clearRangeHint, hasRangeHint}
 use Rattle.marks.proofs.NameLaws.{stops, keeps, bars}
 
@@ -43,7 +45,7 @@ alike-set-tname s p k name confidence = go (bars s p k name confidence) refl
   where
     go : (b : Bool) → bars s p k name confidence ≡ b → Alike (ensure s p k .state) (cond b s (nameMade (getOrCreate s p k) name confidence))
     go true e =
-        let m = and-eq-true-iff (eqb name code.bool || eqb confidence rangeConfidence) (isNotBool s p k) .0 e .1 in
+        let m = and-eq-true-iff (eqb name code.bool || eqb confidence byRange) (isNotBool s p k) .0 e .1 in
         alike-is (ensure s p k .state) s (ap (λ m. m .state) (ensure-there s p k (marked-there s p k m)))
     go false e =
         alike-trans (ensure s p k .state) (getOrCreate s p k .state) (nameMade (getOrCreate s p k) name confidence) (alike-create s p k)

@@ -1,5 +1,4 @@
--- Every range name dropped at once, as a change of each node: the state stays formed and no path moves. Assumes
--- nothing.
+-- Every range name dropped at once, as a change of each node: the state stays formed and no path moves.
 use Prim.Native.Nat.{ℕ}
 use mathlib.Core.Path.{_≡_, refl}
 use mathlib.Core.Bool.{Bool, true, false, cond}
@@ -7,7 +6,7 @@ use mathlib.Core.List.{List, map}
 use Rattle.limits.specs.Codes as code
 use Rattle.limits.specs.Fields as field
 use Rattle.facts.specs.State.{Node}
-use Rattle.facts.specs.Fact.{isRecord}
+use Rattle.facts.specs.Checks.{isRecord}
 use Rattle.facts.specs.Formed.{Formed}
 use Rattle.paths.specs.Update.{withField}
 use Rattle.paths.specs.Adds.{SamePaths}

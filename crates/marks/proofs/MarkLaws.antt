@@ -1,4 +1,4 @@
--- Not-bool marks: what the code's tests and calls come to, over plain numbers, tables and states. Assumes nothing.
+-- Not-bool marks: what the code's tests and calls come to, over plain numbers, tables and states.
 use Prim.Native.Nat.{ℕ, _+_, _≤_}
 use mathlib.Core.Path.{_≡_, refl, sym, ap, _∙_}
 use mathlib.Core.Bool.{Bool, true, false, cond, _||_}
@@ -9,14 +9,14 @@ use lib.ListN.{length}
 use borrow.Author.Tests.{eq-eqb, ne-eqb}
 use Rattle.limits.specs.Codes as code
 use Rattle.limits.specs.Fields as field
-use Rattle.limits.specs.Limits.{rangeConfidence}
+use Rattle.limits.specs.Confidences.{byRange}
 use Rattle.facts.specs.Table.{seenOf, nameOf, confidenceOf}
 use Rattle.facts.specs.State.{Node, nodes, nodeOf, bare}
 use Rattle.paths.specs.Shape.{Shaped}
 use Rattle.paths.specs.Update.{update}
 use Rattle.paths.specs.Find.{findIn, getMut}
 use Rattle.paths.specs.Make.{Made, ensure}
-use Rattle.paths.specs.Holds.{Holds, Makes}
+use Rattle.paths.specs.Represents.{Represents, Makes}
 use Rattle.paths.proofs.Reach.{last-node}
 use Rattle.paths.proofs.Lookups.{find-update, ensure-there, ensure-new, got-none}
 use Rattle.marks.specs.Grows.{Grows}
@@ -24,7 +24,7 @@ use Rattle.marks.specs.Names.{isRange, dropName, markMade, insertNotBool
 use Rattle.marks.proofs.NameLaws.{seen-is, name-is, confidence-is, case-yes, case-no, stays, same-state}
 
 -- a not-bool mark at a path
-pub marked : (u N : ℕ) (s : List Node) (p k : ℕ) (t t′ : List ℕ) (used r : ℕ) → Makes u (ensure s p k) t used N r → Holds t′ used N (update (nodes t used) r field.notBool 1)
+pub marked : (u N : ℕ) (s : List Node) (p k : ℕ) (t t′ : List ℕ) (used r : ℕ) → Makes u (ensure s p k) t used N r → Represents t′ used N (update (nodes t used) r field.notBool 1)
     → Grows u (insertNotBool s p k) t′ used N
 unfolding insertNotBool
 marked u N s p k t t′ used r M H = record {
@@ -43,27 +43,27 @@ dropSeen s r = cond (eqb (nodeOf s r .seen) 1) (dropBoolAt s r) s
 
 module _ (t : List ℕ) (u N r : ℕ) (r1 : 1 ≤ r) (ru : r ≤ u) where
   module _ (v w : ℕ) (ev : v ≡ nameOf t r) (ew : w ≡ confidenceOf t r) where
-    loose-is : (eqb v code.bool || eqb w rangeConfidence) ≡ loose (nodeOf (nodes t u) r)
-    loose-is = λ i. eqb (name-is t u r v r1 ru ev i) code.bool || eqb (confidence-is t u r w r1 ru ew i) rangeConfidence
+    loose-is : (eqb v code.bool || eqb w byRange) ≡ loose (nodeOf (nodes t u) r)
+    loose-is = λ i. eqb (name-is t u r v r1 ru ev i) code.bool || eqb (confidence-is t u r w r1 ru ew i) byRange
 
-    pub drop-held : Shaped t u N → (eqb v code.bool || eqb w rangeConfidence) ≡ false → Holds t u N (dropBoolAt (nodes t u) r)
+    pub drop-held : Shaped t u N → (eqb v code.bool || eqb w byRange) ≡ false → Represents t u N (dropBoolAt (nodes t u) r)
     drop-held S z =
         stays t u N (dropBoolAt (nodes t u) r) S (case-no (loose (nodeOf (nodes t u) r)) (dropName (nodes t u) r) (nodes t u) (sym loose-is ∙ z))
 
-    pub drop-loose : (t′ : List ℕ) → (eqb v code.bool || eqb w rangeConfidence) ≡ true → Holds t′ u N (dropName (nodes t u) r)
-        → Holds t′ u N (dropBoolAt (nodes t u) r)
+    pub drop-loose : (t′ : List ℕ) → (eqb v code.bool || eqb w byRange) ≡ true → Represents t′ u N (dropName (nodes t u) r)
+        → Represents t′ u N (dropBoolAt (nodes t u) r)
     drop-loose t′ z H =
         same-state t′ u N (dropName (nodes t u) r) (dropBoolAt (nodes t u) r) H
         (case-yes (loose (nodeOf (nodes t u) r)) (dropName (nodes t u) r) (nodes t u) (sym loose-is ∙ z))
 
   module _ (v : ℕ) (ev : v ≡ seenOf t r) where
-    seen-dropped : (t₁ t₂ : List ℕ) → v ≡ 1 → Holds t₁ u N (dropBoolAt (nodes t u) r) → t₂ ≡ t₁ → Holds t₂ u N (dropSeen (nodes t u) r)
+    seen-dropped : (t₁ t₂ : List ℕ) → v ≡ 1 → Represents t₁ u N (dropBoolAt (nodes t u) r) → t₂ ≡ t₁ → Represents t₂ u N (dropSeen (nodes t u) r)
     seen-dropped t₁ t₂ z H q =
         rw q (same-state t₁ u N (dropBoolAt (nodes t u) r) (dropSeen (nodes t u) r) H
         (case-yes (eqb (nodeOf (nodes t u) r .seen) 1) (dropBoolAt (nodes t u) r) (nodes t u)
         (eq-eqb (nodeOf (nodes t u) r .seen) 1 (sym (seen-is t u r v r1 ru ev) ∙ z))))
 
-    unseen-kept : (t₂ : List ℕ) → (v ≡ 1 → ⊥) → Shaped t u N → t₂ ≡ t → Holds t₂ u N (dropSeen (nodes t u) r)
+    unseen-kept : (t₂ : List ℕ) → (v ≡ 1 → ⊥) → Shaped t u N → t₂ ≡ t → Represents t₂ u N (dropSeen (nodes t u) r)
     unseen-kept t₂ n S q =
         rw q (stays t u N (dropSeen (nodes t u) r) S
         (case-no (eqb (nodeOf (nodes t u) r .seen) 1) (dropBoolAt (nodes t u) r) (nodes t u)
@@ -123,17 +123,17 @@ module _ (s : List Node) (p k : ℕ) where
 pub record Unnamed (u N : ℕ) (s : List Node) (p k : ℕ) (t : List ℕ) (used r : ℕ) : Type 0 where
   pub former : List ℕ
   pub made : Makes u (ensure s p k) former used N r
-  pub dropped : Holds t used N (dropSeen (nodes former used) r)
+  pub dropped : Represents t used N (dropSeen (nodes former used) r)
 
 module _ (u N : ℕ) (s : List Node) (p k : ℕ) (t₁ : List ℕ) (used r : ℕ) where
   module _ (t : List ℕ) (M : Makes u (ensure s p k) t used N r) (v : ℕ) (ev : v ≡ seenOf t r) where
-    pub unnamed-seen : (t₂ : List ℕ) → v ≡ 1 → Holds t₂ used N (dropBoolAt (nodes t used) r) → t₁ ≡ t₂ → Unnamed u N s p k t₁ used r
+    pub unnamed-seen : (t₂ : List ℕ) → v ≡ 1 → Represents t₂ used N (dropBoolAt (nodes t used) r) → t₁ ≡ t₂ → Unnamed u N s p k t₁ used r
     unnamed-seen t₂ z H q = record { former = t; made = M; dropped = seen-dropped t used N r (M .range .0) (M .range .1) v ev t₂ t₁ z H q }
 
     pub unnamed-unseen : (v ≡ 1 → ⊥) → t₁ ≡ t → Unnamed u N s p k t₁ used r
     unnamed-unseen n q = record { former = t; made = M; dropped = unseen-kept t used N r (M .range .0) (M .range .1) v ev t₁ n (M .shaped) q }
 
-  pub drop-marked : (t₂ : List ℕ) → Unnamed u N s p k t₁ used r → Holds t₂ used N (update (nodes t₁ used) r field.notBool 1) → Grows u (markNotBool s p k) t₂ used N
+  pub drop-marked : (t₂ : List ℕ) → Unnamed u N s p k t₁ used r → Represents t₂ used N (update (nodes t₁ used) r field.notBool 1) → Grows u (markNotBool s p k) t₂ used N
   drop-marked t₂ D K =
       let M = D .made in
       record {

@@ -1,4 +1,4 @@
--- Names: what the code's tests and calls come to, over plain numbers, tables and states. Assumes nothing.
+-- Names: what the code's tests and calls come to, over plain numbers, tables and states.
 use Prim.Native.Nat.{ℕ, _≤_, _<_}
 use mathlib.Core.Path.{_≡_, refl, sym, ap, _∙_}
 use mathlib.Core.Bool.{Bool, true, false, cond, not, _&&_, _||_, and-false}
@@ -8,7 +8,7 @@ use lib.Dec.{eqb, leb}
 use borrow.Author.Tests.{eq-eqb, ne-eqb, le-leb, lt-leb}
 use Rattle.limits.specs.Codes as code
 use Rattle.limits.specs.Fields as field
-use Rattle.limits.specs.Limits.{rangeConfidence}
+use Rattle.limits.specs.Confidences.{byRange}
 use Rattle.facts.specs.Table.{seenOf, notBoolOf, blockedOf, nameOf, confidenceOf}
 use Rattle.facts.specs.State.{Node, nodeAt, nodes, nodeOf}
 use Rattle.facts.proofs.Encode.{nodes-get}
@@ -16,7 +16,7 @@ use Rattle.paths.specs.Shape.{Shaped}
 use Rattle.paths.specs.Update.{update}
 use Rattle.paths.specs.Find.{findIn}
 use Rattle.paths.specs.Make.{getOrCreate}
-use Rattle.paths.specs.Holds.{Holds, Makes}
+use Rattle.paths.specs.Represents.{Represents, Makes}
 use Rattle.marks.specs.Grows.{Grows}
 use Rattle.marks.specs.Names.{giveName, isNotBool, nameAt, nameMade, setTname}
 
@@ -48,19 +48,19 @@ pub case-no : {A : Type 0} (b : Bool) (x y : A) → b ≡ false → y ≡ cond b
 case-no b x y e = sym (ap (λ (z : Bool). cond z x y) e)
 
 -- a table that is left as it was
-pub stays : (t : List ℕ) (u N : ℕ) (s : List Node) → Shaped t u N → nodes t u ≡ s → Holds t u N s
+pub stays : (t : List ℕ) (u N : ℕ) (s : List Node) → Shaped t u N → nodes t u ≡ s → Represents t u N s
 stays t u N s S e = record { shaped = S; state = e }
 
 -- one change after another
-pub then : (f : List Node → List Node) (t t′ : List ℕ) (u N : ℕ) (s : List Node) → Holds t u N s → Holds t′ u N (f (nodes t u)) → Holds t′ u N (f s)
+pub then : (f : List Node → List Node) (t t′ : List ℕ) (u N : ℕ) (s : List Node) → Represents t u N s → Represents t′ u N (f (nodes t u)) → Represents t′ u N (f s)
 then f t t′ u N s H K = record { shaped = K .shaped; state = K .state ∙ ap f (H .state) }
 
 -- the same state by another definition
-pub same-state : (t : List ℕ) (u N : ℕ) (s s′ : List Node) → Holds t u N s → s ≡ s′ → Holds t u N s′
+pub same-state : (t : List ℕ) (u N : ℕ) (s s′ : List Node) → Represents t u N s → s ≡ s′ → Represents t u N s′
 same-state t u N s s′ H e = record { shaped = H .shaped; state = H .state ∙ e }
 
-pub given : (t t₁ t₂ : List ℕ) (u N r name confidence : ℕ) → Holds t₁ u N (update (nodes t u) r field.name name)
-    → Holds t₂ u N (update (nodes t₁ u) r field.confidence confidence) → Holds t₂ u N (giveName (nodes t u) r name confidence)
+pub given : (t t₁ t₂ : List ℕ) (u N r name confidence : ℕ) → Represents t₁ u N (update (nodes t u) r field.name name)
+    → Represents t₂ u N (update (nodes t₁ u) r field.confidence confidence) → Represents t₂ u N (giveName (nodes t u) r name confidence)
 given t t₁ t₂ u N r name confidence H K = then (λ (s : List Node). update s r field.confidence confidence) t₁ t₂ u N (update (nodes t u) r field.name name) H K
 
 -- a path that is not there is not marked
@@ -75,14 +75,14 @@ not-bool-some t u p k c e cu n v ev =
 
 -- the name at a record: does a block stop it, does the standing one keep its place?
 abbrev pub stops : List Node → ℕ → ℕ → Bool
-stops s r confidence = eqb confidence rangeConfidence && eqb (nodeOf s r .blocked) 1
+stops s r confidence = eqb confidence byRange && eqb (nodeOf s r .blocked) 1
 
 abbrev pub keeps : List Node → ℕ → ℕ → Bool
 keeps s r confidence = not (eqb (nodeOf s r .name) code.noName) && leb confidence (nodeOf s r .confidence)
 
 module _ (t : List ℕ) (u r confidence : ℕ) (r1 : 1 ≤ r) (ru : r ≤ u) where
-  pub no-range : (confidence ≡ rangeConfidence → ⊥) → stops (nodes t u) r confidence ≡ false
-  no-range n = rw (ne-eqb confidence rangeConfidence n) refl
+  pub no-range : (confidence ≡ byRange → ⊥) → stops (nodes t u) r confidence ≡ false
+  no-range n = rw (ne-eqb confidence byRange n) refl
 
   pub no-block : (v : ℕ) → v ≡ blockedOf t r → (v ≡ 1 → ⊥) → stops (nodes t u) r confidence ≡ false
   no-block v e n = simp (ne-eqb (nodeOf (nodes t u) r .blocked) 1 (λ z. n (blocked-is t u r v r1 ru e ∙ z)), and-false)
@@ -96,15 +96,15 @@ module _ (t : List ℕ) (u r confidence : ℕ) (r1 : 1 ≤ r) (ru : r ≤ u) whe
       simp (lt-leb confidence (nodeOf (nodes t u) r .confidence) (omega arith), and-false)
 
 module _ (t : List ℕ) (u N r name confidence : ℕ) (r1 : 1 ≤ r) (ru : r ≤ u) where
-  pub name-stopped : (v : ℕ) → Shaped t u N → confidence ≡ rangeConfidence → v ≡ blockedOf t r → v ≡ 1 → Holds t u N (nameAt (nodes t u) r name confidence)
+  pub name-stopped : (v : ℕ) → Shaped t u N → confidence ≡ byRange → v ≡ blockedOf t r → v ≡ 1 → Represents t u N (nameAt (nodes t u) r name confidence)
   name-stopped v S c e z =
-      let a = eq-eqb confidence rangeConfidence c in
+      let a = eq-eqb confidence byRange c in
       let b = eq-eqb (nodeOf (nodes t u) r .blocked) 1 (sym (blocked-is t u r v r1 ru e) ∙ z) in
       stays t u N (nameAt (nodes t u) r name confidence) S
       (case-yes (stops (nodes t u) r confidence) (nodes t u) (cond (keeps (nodes t u) r confidence) (nodes t u) (giveName (nodes t u) r name confidence)) (λ i. a i && b i))
 
   pub name-kept : (v w : ℕ) → Shaped t u N → stops (nodes t u) r confidence ≡ false → v ≡ nameOf t r → (v ≡ code.noName → ⊥) → w ≡ confidenceOf t r → confidence ≤ w
-      → Holds t u N (nameAt (nodes t u) r name confidence)
+      → Represents t u N (nameAt (nodes t u) r name confidence)
   name-kept v w S f ev n ew l =
       let a = ne-eqb (nodeOf (nodes t u) r .name) code.noName (λ z. n (name-is t u r v r1 ru ev ∙ z)) in
       let q = confidence-is t u r w r1 ru ew in
@@ -113,8 +113,8 @@ module _ (t : List ℕ) (u N r name confidence : ℕ) (r1 : 1 ≤ r) (ru : r ≤
       (case-yes (keeps (nodes t u) r confidence) (nodes t u) (giveName (nodes t u) r name confidence) (λ i. not (a i) && b i)
       ∙ case-no (stops (nodes t u) r confidence) (nodes t u) (cond (keeps (nodes t u) r confidence) (nodes t u) (giveName (nodes t u) r name confidence)) f)
 
-  pub name-new : (t′ : List ℕ) → stops (nodes t u) r confidence ≡ false → keeps (nodes t u) r confidence ≡ false → Holds t′ u N (giveName (nodes t u) r name confidence)
-      → Holds t′ u N (nameAt (nodes t u) r name confidence)
+  pub name-new : (t′ : List ℕ) → stops (nodes t u) r confidence ≡ false → keeps (nodes t u) r confidence ≡ false → Represents t′ u N (giveName (nodes t u) r name confidence)
+      → Represents t′ u N (nameAt (nodes t u) r name confidence)
   name-new t′ f g H =
       same-state t′ u N (giveName (nodes t u) r name confidence) (nameAt (nodes t u) r name confidence) H
       (case-no (keeps (nodes t u) r confidence) (nodes t u) (giveName (nodes t u) r name confidence) g
@@ -122,17 +122,17 @@ module _ (t : List ℕ) (u N r name confidence : ℕ) (r1 : 1 ≤ r) (ru : r ≤
 
 -- a name set at a path: does a not-bool mark bar it?
 abbrev pub bars : List Node → ℕ → ℕ → ℕ → ℕ → Bool
-bars s p k name confidence = (eqb name code.bool || eqb confidence rangeConfidence) && isNotBool s p k
+bars s p k name confidence = (eqb name code.bool || eqb confidence byRange) && isNotBool s p k
 
 module _ (s : List Node) (p k name confidence : ℕ) where
-  pub no-bar : (eqb name code.bool || eqb confidence rangeConfidence) ≡ false → bars s p k name confidence ≡ false
+  pub no-bar : (eqb name code.bool || eqb confidence byRange) ≡ false → bars s p k name confidence ≡ false
   no-bar e = rw e refl
 
   pub no-mark : (b : Bool) → b ≡ isNotBool s p k → b ≡ false → bars s p k name confidence ≡ false
   no-mark b e z = simp (sym e ∙ z, and-false)
 
 module _ (u N : ℕ) (s : List Node) (p k name confidence : ℕ) where
-  pub tname-barred : (t : List ℕ) (b : Bool) → Shaped t u N → nodes t u ≡ s → (eqb name code.bool || eqb confidence rangeConfidence) ≡ true → b ≡ isNotBool s p k
+  pub tname-barred : (t : List ℕ) (b : Bool) → Shaped t u N → nodes t u ≡ s → (eqb name code.bool || eqb confidence byRange) ≡ true → b ≡ isNotBool s p k
       → b ≡ true → Grows u (setTname s p k name confidence) t u N
   unfolding setTname
   tname-barred t b S q a e z = record {
@@ -141,7 +141,7 @@ module _ (u N : ℕ) (s : List Node) (p k name confidence : ℕ) where
     range = (omega arith, omega arith);
   }
 
-  pub tname-set : (t t′ : List ℕ) (used r : ℕ) → bars s p k name confidence ≡ false → Makes u (getOrCreate s p k) t used N r → Holds t′ used N (nameAt (nodes t used) r name confidence)
+  pub tname-set : (t t′ : List ℕ) (used r : ℕ) → bars s p k name confidence ≡ false → Makes u (getOrCreate s p k) t used N r → Represents t′ used N (nameAt (nodes t used) r name confidence)
       → Grows u (setTname s p k name confidence) t′ used N
   unfolding setTname
   tname-set t t′ used r f M H = record {

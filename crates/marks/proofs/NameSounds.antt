@@ -1,4 +1,4 @@
--- A formed state stays formed when a name is set or dropped, a mark is set or a hint is cleared. Assumes nothing.
+-- A formed state stays formed when a name is set or dropped, a mark is set or a hint is cleared.
 use Prim.Native.Nat.{ℕ, _≤_, _<_, max}
 use mathlib.Core.Path.{_≡_, refl, sym, ap, _∙_}
 use mathlib.Core.Bool.{Bool, true, false, true≢false, cond, _&&_, _||_}
@@ -12,7 +12,8 @@ use Rattle.limits.specs.Fields as field
 use Rattle.limits.specs.Limits.{confidenceMax}
 use Rattle.names.specs.Elementary.{isName}
 use Rattle.facts.specs.State.{Node, nodeOf}
-use Rattle.facts.specs.Fact.{isBare, isRecord}
+use Rattle.facts.specs.Fact.{isBare}
+use Rattle.facts.specs.Checks.{isRecord}
 use Rattle.facts.specs.Formed.{Formed}
 use Rattle.facts.proofs.Whole.{fact-parts, parts-fact, bare-zeros}
 use Rattle.paths.specs.Update.{withField, update}
@@ -21,8 +22,10 @@ use Rattle.paths.specs.Make.{ensure, getOrCreate}
 use Rattle.paths.proofs.Kept.{length-update, length-seen, made-seen}
 use Rattle.paths.proofs.Reach.{ensure-range}
 use Rattle.paths.proofs.Lookups.{found-node, found-above, got-node, ensure-above}
-use Rattle.paths.proofs.Sounds.{flags-parts, parts-flags, formed-ordered, formed-ensure, formed-create, formed-once, formed-twice, formed-cond}
-use Rattle.marks.specs.Names.{isRange, dropName, giveName, nameAt, nameMade, setTname, insertNotBool, dropBoolAt, dropBool, markNotBool}
+use Rattle.paths.proofs.Sounds.{flags-parts, parts-flags, formed-ordered, formed-ensure, formed-create, formed-once}
+use Rattle.paths.proofs.Sounds.{formed-twice, formed-cond}
+use Rattle.marks.specs.Names.{isRange, dropName, giveName, nameAt, nameMade, setTname, insertNotBool, dropBoolAt}
+use Rattle.marks.specs.Names.{dropBool, markNotBool}
 use Rattle.marks.specs.Hints.{clearAt, clearRangeHint}
 use Rattle.marks.proofs.NameLaws.{stops, keeps, bars}
 use Rattle.marks.proofs.Counts.{alike-drop-bool}

@@ -1,4 +1,4 @@
--- The walk that clears a record and all below it, one child a turn. Assumes nothing.
+-- The walk that clears a record and all below it, one child a turn.
 use Prim.Native.Nat.{ℕ, _+_, _≤_, _<_, _^_}
 use mathlib.Core.Path.{_≡_, sym, ap, _∙_}
 use mathlib.Core.Bool.{true, _||_}
@@ -9,40 +9,44 @@ use native.Mathlib.Nat.{eq-or-lt-of-le}
 use lib.Dec.{leb}
 use lib.ListN.{length}
 use borrow.Author.Tests.{eq-eqb, ne-eqb}
-use Rattle.limits.specs.Limits.{rangeConfidence}
+use Rattle.limits.specs.Confidences.{byRange}
 use Rattle.limits.specs.Codes as code
 use Rattle.limits.specs.Fields as field
 use Rattle.facts.specs.Table.{keyOf, parentOf, childOf, nextOf, confidenceOf}
-use Rattle.facts.specs.Links.{Kid, First}
+use Rattle.facts.specs.Links.{Kid}
+use Rattle.facts.specs.Linked.{First}
 use Rattle.facts.specs.State.{Node, nodes, nodeOf}
-use Rattle.facts.specs.Fact.{isBare, isRecord}
+use Rattle.facts.specs.Fact.{isBare}
+use Rattle.facts.specs.Checks.{isRecord}
 use Rattle.facts.proofs.Encode.{length-nodes, nodes-get}
 use Rattle.facts.proofs.Whole.{fact-parts, bare-zeros}
 use Rattle.paths.specs.Shape.{Shaped}
 use Rattle.paths.specs.Update.{withField}
-use Rattle.paths.specs.Holds.{Holds}
+use Rattle.paths.specs.Represents.{Represents}
 use Rattle.paths.proofs.Reach.{shaped-ordered}
 use Rattle.paths.proofs.Walk.{left}
 use Rattle.paths.proofs.Tail.{next-less}
 use Rattle.marks.specs.Names.{isRange, dropName}
-use Rattle.marks.specs.Hints.{withoutRange, dropRange, clearRangeHints}
+use Rattle.marks.specs.Hints.{withoutRange, clearRangeHints}
+use Rattle.marks.specs.Dropping.{dropRange}
 use Rattle.marks.specs.Below.{ClearsBelow}
 use Rattle.marks.proofs.NameLaws.{confidence-is, case-yes, case-no, stays, same-state}
-use Rattle.marks.proofs.BelowLaws.{Either, either-key, either-parent, Child, Partly, partly-start, partly-next, partly-done, all-cleared}
+use Rattle.marks.proofs.BelowLaws.{Either, either-key, either-parent, Child, Partly, partly-start, partly-next}
+use Rattle.marks.proofs.BelowLaws.{partly-done, all-cleared}
 
 -- one record
 module _ (t : List ℕ) (u N r w : ℕ) (r1 : 1 ≤ r) (ru : r ≤ u) (ew : w ≡ confidenceOf t r) where
-  pub range-dropped : (t′ : List ℕ) → w ≡ rangeConfidence → Holds t′ u N (dropName (nodes t u) r) → Holds t′ u N (dropRange (nodes t u) r)
+  pub range-dropped : (t′ : List ℕ) → w ≡ byRange → Represents t′ u N (dropName (nodes t u) r) → Represents t′ u N (dropRange (nodes t u) r)
   range-dropped t′ z H =
       same-state t′ u N (dropName (nodes t u) r) (dropRange (nodes t u) r) H
       (case-yes (isRange (nodeOf (nodes t u) r)) (dropName (nodes t u) r) (nodes t u)
-      (eq-eqb (nodeOf (nodes t u) r .confidence) rangeConfidence (sym (confidence-is t u r w r1 ru ew) ∙ z)))
+      (eq-eqb (nodeOf (nodes t u) r .confidence) byRange (sym (confidence-is t u r w r1 ru ew) ∙ z)))
 
-  pub range-none : Shaped t u N → (w ≡ rangeConfidence → ⊥) → Holds t u N (dropRange (nodes t u) r)
+  pub range-none : Shaped t u N → (w ≡ byRange → ⊥) → Represents t u N (dropRange (nodes t u) r)
   range-none S n =
       stays t u N (dropRange (nodes t u) r) S
       (case-no (isRange (nodeOf (nodes t u) r)) (dropName (nodes t u) r) (nodes t u)
-      (ne-eqb (nodeOf (nodes t u) r .confidence) rangeConfidence (λ z. n (confidence-is t u r w r1 ru ew ∙ z))))
+      (ne-eqb (nodeOf (nodes t u) r .confidence) byRange (λ z. n (confidence-is t u r w r1 ru ew ∙ z))))
 
 -- the walk has come to c: the branches of the children with keys below low are cleared, and t₁ is the table that it
 -- began with
@@ -144,7 +148,7 @@ module _ (t₁ : List ℕ) (used N p : ℕ) (t : List ℕ) (c : ℕ) (C : Cleari
               D;
         }
 
-  pub clearing-done : (t₀ : List ℕ) → p ≤ used → c ≡ 0 → Shaped t₀ used N → Holds t₁ used N (dropRange (nodes t₀ used) p) → ClearsBelow (nodes t₀ used) p (nodes t used)
+  pub clearing-done : (t₀ : List ℕ) → p ≤ used → c ≡ 0 → Shaped t₀ used N → Represents t₁ used N (dropRange (nodes t₀ used) p) → ClearsBelow (nodes t₀ used) p (nodes t used)
   clearing-done t₀ pu z S₀ H =
       let l = length-nodes t₀ used in
       let l₁ = length-nodes t₁ used in
@@ -156,7 +160,7 @@ module _ (t₁ : List ℕ) (used N p : ℕ) (t : List ℕ) (c : ℕ) (C : Cleari
       (sym (ap length e) ∙ l₁ ∙ sym l) (rw e at O) (rw e at (C .partly)) (rw e at all)
 
 pub root-cleared : (t t′ : List ℕ) (used N : ℕ) → Shaped t used N → Shaped t′ used N → ClearsBelow (nodes t used) 1 (nodes t′ used)
-    → Holds t′ used N (clearRangeHints (nodes t used))
+    → Represents t′ used N (clearRangeHints (nodes t used))
 root-cleared t t′ used N S S′ D =
     record { shaped = S′; state = all-cleared (nodes t used) (nodes t′ used) (shaped-ordered t used N S) D }
 
@@ -165,5 +169,5 @@ pub unseen-cleared : (n : Node) → isRecord n ≡ true → n .seen ≡ 0 → wi
 unfolding withField
 unseen-cleared n f z =
     let b : isBare n ≡ true = sym (ap (λ (v : ℕ). leb 1 v || isBare n) z) ∙ fact-parts n f .second in
-    let e = ne-eqb (n .confidence) rangeConfidence (λ q. let c = bare-zeros n b .confidence in omega arith) in
+    let e = ne-eqb (n .confidence) byRange (λ q. let c = bare-zeros n b .confidence in omega arith) in
     sym (case-no (isRange n) (withField field.confidence 0 (withField field.name code.noName n)) n e)

@@ -1,4 +1,4 @@
--- What one turn of the walk over the facts clears: a node and all below it. Assumes nothing: these are definitions.
+-- What one turn of the walk over the facts clears: a node and all below it.
 use Prim.Native.Nat.{ℕ, zero, suc, _≤_}
 use mathlib.Core.Path.{_≡_}
 use mathlib.Core.Logic.{_⊎_}

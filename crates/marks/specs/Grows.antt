@@ -1,6 +1,5 @@
 -- What an operation that may add a path has done: the table that it leaves holds the state s in its first used records,
 -- of which there were u before.
--- Assumes nothing: these are definitions.
 use Prim.Native.Nat.{ℕ, _+_, _≤_}
 use mathlib.Core.Path.{_≡_}
 use mathlib.Core.List.{List}

@@ -1,6 +1,4 @@
 -- Range hints, which are range names, over the state: `clear_range_hint`, `has_range_hint`, `clear_range_hints`.
--- Assumes nothing: these are
--- definitions.
 use Prim.Native.Nat.{ℕ, max}
 use mathlib.Core.Bool.{Bool, cond, not, _&&_}
 use mathlib.Core.List.{List, map}
@@ -31,11 +29,7 @@ hasRangeHint s p k = not (eqb (getMut s p k) 0) && isRange (nodeOf s (getMut s p
 abbrev pub withoutRange : Node → Node
 withoutRange n = cond (isRange n) (withField field.confidence 0 (withField field.name code.noName n)) n
 
--- that done at node r
-abbrev pub dropRange : List Node → ℕ → List Node
-dropRange s r = cond (isRange (nodeOf s r)) (dropName s r) s
-
--- `Info::clear_range_hints` of the root: over all facts, since an unseen record of a sound table has no name
--- (decision D36)
+-- `Info::clear_range_hints` of the root: over all nodes, since an unseen record of a sound table has no name (decision
+-- D36)
 unfoldable pub clearRangeHints : List Node → List Node
 clearRangeHints s = map withoutRange s

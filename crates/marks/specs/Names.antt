@@ -1,13 +1,12 @@
 -- Names and not-bool marks, over the state: `set_tname`, `mark_not_bool` and the range rule's own mark. p is the record
--- of a label's path and k its offset,
--- so the fact is the one of that path with the key k at its end. Assumes nothing: these are definitions.
+-- of a label's path and k its offset, so the fact is the one of that path with the key k at its end.
 use Prim.Native.Nat.{ℕ}
 use mathlib.Core.Bool.{Bool, cond, not, _&&_, _||_}
 use mathlib.Core.List.{List}
 use lib.Dec.{eqb, leb}
 use Rattle.limits.specs.Codes as code
 use Rattle.limits.specs.Fields as field
-use Rattle.limits.specs.Limits.{rangeConfidence}
+use Rattle.limits.specs.Confidences.{byRange}
 use Rattle.facts.specs.State.{Node, nodeOf}
 use Rattle.paths.specs.Update.{update}
 use Rattle.paths.specs.Find.{findIn, getMut}
@@ -15,7 +14,7 @@ use Rattle.paths.specs.Make.{Made, ensure, getOrCreate}
 
 -- a range name: one of confidence 6
 abbrev pub isRange : Node → Bool
-isRange n = eqb (n .confidence) rangeConfidence
+isRange n = eqb (n .confidence) byRange
 
 -- the state with node r's name dropped
 abbrev pub dropName : List Node → ℕ → List Node
@@ -32,7 +31,7 @@ isNotBool s p k = not (eqb (findIn s p k) 0) && eqb (nodeOf s (findIn s p k) .no
 -- the name at node r, unless "A blocked range name stops", or "An equal or lower one never replaces"
 abbrev pub nameAt : List Node → ℕ → ℕ → ℕ → List Node
 nameAt s r name confidence =
-    cond (eqb confidence rangeConfidence && eqb (nodeOf s r .blocked) 1) s
+    cond (eqb confidence byRange && eqb (nodeOf s r .blocked) 1) s
     (cond (not (eqb (nodeOf s r .name) code.noName) && leb confidence (nodeOf s r .confidence)) s
     (giveName s r name confidence))
 
@@ -43,7 +42,7 @@ nameMade m name confidence = nameAt (m .state) (m .number) name confidence
 -- after that." (decision D21)
 unfoldable pub setTname : List Node → ℕ → ℕ → ℕ → ℕ → List Node
 setTname s p k name confidence =
-    cond ((eqb name code.bool || eqb confidence rangeConfidence) && isNotBool s p k) s
+    cond ((eqb name code.bool || eqb confidence byRange) && isNotBool s p k) s
     (nameMade (getOrCreate s p k) name confidence)
 
 -- a not-bool mark alone, as the range rule sets it: it drops no name, and makes an unseen path where there is none

@@ -3,11 +3,11 @@ ghost use mathlib.Core.Path.{_≡_};
 ghost use Prim.Native.Nat.{_≤_};
 ghost use Rattle.facts.specs.State.{nodes};
 ghost use Rattle.paths.specs.Shape.{Shaped};
-ghost use Rattle.paths.specs.Holds.{Holds};
+ghost use Rattle.paths.specs.Represents.{Represents};
 ghost use Rattle.marks.specs.Hints.{clearAt, clearRangeHint, hasRangeHint};
 use crate::name::drop_name;
 use facts::field;
-use limits::RANGE_CONFIDENCE;
+use limits::confidences::BY_RANGE;
 use limits::fields::BLOCKED;
 use limits::fields::CONFIDENCE;
 use paths::get_mut;
@@ -17,9 +17,9 @@ use paths::store;
 fn clear_at(table: &mut [u32], n: u32, used: u32, r: u32, block: u32)
     requires { ⌜ Shaped (now table) used n ⌝ }
     requires { ⌜ (1 ≤ r) × (r ≤ used) × (block ≤ 1) ⌝ }
-    ensures { λ _. ⌜ Holds (now (table .exit)) used n (clearAt (nodes (now (table .entry)) used) r block) ⌝ }
+    ensures { λ _. ⌜ Represents (now (table .exit)) used n (clearAt (nodes (now (table .entry)) used) r block) ⌝ }
 {
-    let range = field(table, r, CONFIDENCE) == RANGE_CONFIDENCE;
+    let range = field(table, r, CONFIDENCE) == BY_RANGE;
     let blocked = field(table, r, BLOCKED);
     if blocked < block {
         store(table, n, used, r, BLOCKED, block);
@@ -34,7 +34,8 @@ fn clear_at(table: &mut [u32], n: u32, used: u32, r: u32, block: u32)
 pub fn clear_range_hint(table: &mut [u32], n: u32, used: u32, p: u32, k: u32, block: u32)
     requires { ⌜ Shaped (now table) used n ⌝ }
     requires { ⌜ (1 ≤ p) × (p ≤ used) × (block ≤ 1) ⌝ }
-    ensures { λ _. ⌜ Holds (now (table .exit)) used n (clearRangeHint (nodes (now (table .entry)) used) p k block) ⌝ }
+    ensures { λ _. ⌜ Represents (now (table .exit)) used n
+        (clearRangeHint (nodes (now (table .entry)) used) p k block) ⌝ }
 {
     let c = get_mut(table, n, used, p, k);
     if c == 0 {
@@ -52,5 +53,5 @@ pub fn has_range_hint(table: &[u32], n: u32, used: u32, p: u32, k: u32) -> bool
     if c == 0 {
         return false;
     }
-    field(table, c, CONFIDENCE) == RANGE_CONFIDENCE
+    field(table, c, CONFIDENCE) == BY_RANGE
 }

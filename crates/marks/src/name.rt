@@ -5,14 +5,15 @@ ghost use Rattle.limits.specs.Limits.{recordsMax};
 ghost use Rattle.facts.specs.State.{nodes};
 ghost use Rattle.paths.specs.Shape.{Shaped};
 ghost use Rattle.paths.specs.Find.{findIn};
-ghost use Rattle.paths.specs.Holds.{Holds};
+ghost use Rattle.paths.specs.Represents.{Represents};
 ghost use Rattle.paths.specs.Place.{Place};
 ghost use Rattle.marks.specs.Grows.{Grows};
-ghost use Rattle.marks.specs.Names.{dropName, giveName, nameAt, isNotBool, dropBoolAt, setTname, insertNotBool, markNotBool};
+ghost use Rattle.marks.specs.Names.{dropName, giveName, nameAt, isNotBool, dropBoolAt, setTname, insertNotBool};
+ghost use Rattle.marks.specs.Names.{markNotBool};
 use facts::field;
-use limits::RANGE_CONFIDENCE;
 use limits::codes::BOOL;
 use limits::codes::NO_NAME;
+use limits::confidences::BY_RANGE;
 use limits::fields::BLOCKED;
 use limits::fields::CONFIDENCE;
 use limits::fields::NAME;
@@ -27,7 +28,8 @@ use paths::store;
 pub fn give_name(table: &mut [u32], n: u32, used: u32, r: u32, name: u32, confidence: u32)
     requires { ⌜ Shaped (now table) used n ⌝ }
     requires { ⌜ (1 ≤ r) × (r ≤ used) ⌝ }
-    ensures { λ _. ⌜ Holds (now (table .exit)) used n (giveName (nodes (now (table .entry)) used) r name confidence) ⌝ }
+    ensures { λ _. ⌜ Represents (now (table .exit)) used n
+        (giveName (nodes (now (table .entry)) used) r name confidence) ⌝ }
 {
     store(table, n, used, r, NAME, name);
     store(table, n, used, r, CONFIDENCE, confidence);
@@ -36,7 +38,7 @@ pub fn give_name(table: &mut [u32], n: u32, used: u32, r: u32, name: u32, confid
 pub fn drop_name(table: &mut [u32], n: u32, used: u32, r: u32)
     requires { ⌜ Shaped (now table) used n ⌝ }
     requires { ⌜ (1 ≤ r) × (r ≤ used) ⌝ }
-    ensures { λ _. ⌜ Holds (now (table .exit)) used n (dropName (nodes (now (table .entry)) used) r) ⌝ }
+    ensures { λ _. ⌜ Represents (now (table .exit)) used n (dropName (nodes (now (table .entry)) used) r) ⌝ }
 {
     give_name(table, n, used, r, NO_NAME, 0);
 }
@@ -45,9 +47,10 @@ pub fn drop_name(table: &mut [u32], n: u32, used: u32, r: u32)
 fn name_at(table: &mut [u32], n: u32, used: u32, r: u32, name: u32, confidence: u32)
     requires { ⌜ Shaped (now table) used n ⌝ }
     requires { ⌜ (1 ≤ r) × (r ≤ used) ⌝ }
-    ensures { λ _. ⌜ Holds (now (table .exit)) used n (nameAt (nodes (now (table .entry)) used) r name confidence) ⌝ }
+    ensures { λ _. ⌜ Represents (now (table .exit)) used n
+        (nameAt (nodes (now (table .entry)) used) r name confidence) ⌝ }
 {
-    if confidence == RANGE_CONFIDENCE {
+    if confidence == BY_RANGE {
         if field(table, r, BLOCKED) == 1 {
             return;
         }
@@ -87,11 +90,12 @@ pub fn set_tname(
     requires { ⌜ Shaped (now table) used n ⌝ }
     requires { ⌜ (1 ≤ p) × (p ≤ used) × (n ≤ recordsMax) ⌝ }
     requires { ⌜ (findIn (nodes (now table) used) p k ≡ 0 → used < n) ⌝ }
-    ensures { λ r. ⌜ Grows used (setTname (nodes (now (table .entry)) used) p k name confidence) (now (table .exit)) r n ⌝ }
+    ensures { λ r. ⌜ Grows used (setTname (nodes (now (table .entry)) used) p k name confidence)
+        (now (table .exit)) r n ⌝ }
 {
     let spot = place(table, used, p, k, 0);
     let prev = spot.prev;
-    if (name == BOOL) | (confidence == RANGE_CONFIDENCE) {
+    if (name == BOOL) | (confidence == BY_RANGE) {
         if is_not_bool(table, n, used, p, k, prev, spot.next) {
             return used;
         }
@@ -119,9 +123,9 @@ pub fn insert_not_bool(table: &mut [u32], n: u32, used: u32, p: u32, k: u32) -> 
 fn drop_bool(table: &mut [u32], n: u32, used: u32, r: u32)
     requires { ⌜ Shaped (now table) used n ⌝ }
     requires { ⌜ (1 ≤ r) × (r ≤ used) ⌝ }
-    ensures { λ _. ⌜ Holds (now (table .exit)) used n (dropBoolAt (nodes (now (table .entry)) used) r) ⌝ }
+    ensures { λ _. ⌜ Represents (now (table .exit)) used n (dropBoolAt (nodes (now (table .entry)) used) r) ⌝ }
 {
-    if (field(table, r, NAME) == BOOL) | (field(table, r, CONFIDENCE) == RANGE_CONFIDENCE) {
+    if (field(table, r, NAME) == BOOL) | (field(table, r, CONFIDENCE) == BY_RANGE) {
         drop_name(table, n, used, r);
     }
 }

@@ -2,12 +2,13 @@
 ghost use Prim.Native.Nat.{_≤_};
 ghost use Rattle.facts.specs.State.{nodes};
 ghost use Rattle.paths.specs.Shape.{Shaped};
-ghost use Rattle.paths.specs.Holds.{Holds};
-ghost use Rattle.marks.specs.Hints.{dropRange, clearRangeHints};
+ghost use Rattle.paths.specs.Represents.{Represents};
+ghost use Rattle.marks.specs.Hints.{clearRangeHints};
+ghost use Rattle.marks.specs.Dropping.{dropRange};
 ghost use Rattle.marks.specs.Below.{ClearsBelow};
 use crate::name::drop_name;
 use facts::field;
-use limits::RANGE_CONFIDENCE;
+use limits::confidences::BY_RANGE;
 use limits::fields::CHILD;
 use limits::fields::CONFIDENCE;
 use limits::fields::NEXT;
@@ -16,9 +17,9 @@ use limits::fields::NEXT;
 fn drop_range(table: &mut [u32], n: u32, used: u32, r: u32)
     requires { ⌜ Shaped (now table) used n ⌝ }
     requires { ⌜ (1 ≤ r) × (r ≤ used) ⌝ }
-    ensures { λ _. ⌜ Holds (now (table .exit)) used n (dropRange (nodes (now (table .entry)) used) r) ⌝ }
+    ensures { λ _. ⌜ Represents (now (table .exit)) used n (dropRange (nodes (now (table .entry)) used) r) ⌝ }
 {
-    if field(table, r, CONFIDENCE) == RANGE_CONFIDENCE {
+    if field(table, r, CONFIDENCE) == BY_RANGE {
         drop_name(table, n, used, r);
     }
 }
@@ -42,7 +43,7 @@ fn clear_below(table: &mut [u32], n: u32, used: u32, p: u32)
 // All facts are at the root or below it.
 pub fn clear_range_hints(table: &mut [u32], n: u32, used: u32)
     requires { ⌜ Shaped (now table) used n ⌝ }
-    ensures { λ _. ⌜ Holds (now (table .exit)) used n (clearRangeHints (nodes (now (table .entry)) used)) ⌝ }
+    ensures { λ _. ⌜ Represents (now (table .exit)) used n (clearRangeHints (nodes (now (table .entry)) used)) ⌝ }
 {
     clear_below(table, n, used, 1);
 }

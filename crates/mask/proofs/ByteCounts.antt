@@ -1,5 +1,5 @@
 -- How many bytes of a form, low ones or leading ff, a mask is: what `bytesOf` gives, and how the code gets it from a
--- run of low ones. Assumes nothing.
+-- run of low ones.
 use mathlib.Core.Path.{_≡_, refl, sym, ap, _∙_}
 use mathlib.Core.Logic.{_↔_}
 use mathlib.Core.Bool.{Bool, true, false, cond}

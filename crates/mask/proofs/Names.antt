@@ -1,5 +1,4 @@
 -- The name that a mask gives, from the bytes that are counted: the definition's test for zero is one with "no bytes".
--- Assumes nothing.
 use mathlib.Core.Path.{_≡_, refl, sym, ap}
 use mathlib.Core.Bool.{Bool, true, false, cond}
 use Prim.Native.Nat.{ℕ, _+_, _*_}

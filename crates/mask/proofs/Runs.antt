@@ -1,5 +1,4 @@
--- m AND (m + 1) is zero just where m + 1 is a power of two, and then the power is the number of m's ones. Assumes
--- nothing.
+-- m AND (m + 1) is zero just where m + 1 is a power of two, and then the power is the number of m's ones.
 use mathlib.Core.Path.{_≡_, refl, sym, ap, _∙_}
 use mathlib.Core.Bool.{Bool, true, false}
 use Prim.Native.Nat.{ℕ, suc, _+_, _-_, _*_, _/_, _%_, _^_, _≤_, _<_}

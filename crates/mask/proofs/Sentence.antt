@@ -1,6 +1,5 @@
 -- The definition is document 01's sentence: "zero gives none; low ones in whole bytes give uint, 160 of them address;
--- else leading ff bytes,
--- the rest zero, give fixed bytes". Assumes nothing.
+-- else leading ff bytes, the rest zero, give fixed bytes".
 use mathlib.Core.Path.{_≡_, refl, sym, ap, _∙_, subst}
 use mathlib.Core.Logic.{_↔_, _⊎_, inl, inr}
 use Prim.Native.Nat.{ℕ, _+_, _-_, _*_, _^_, _≤_, _<_}

@@ -1,6 +1,5 @@
 -- The type that a mask names: "zero gives none; low ones in whole bytes give uint, 160 of them address; else leading ff
--- bytes, the rest zero,
--- give fixed bytes". Assumes nothing.
+-- bytes, the rest zero, give fixed bytes".
 use Prim.Native.Nat.{ℕ, zero, suc, _+_, _-_, _*_, _^_}
 use mathlib.Core.Bool.{cond}
 use lib.Dec.{eqb, ltb}

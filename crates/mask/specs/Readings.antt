@@ -1,4 +1,4 @@
--- The bench readings P2 to P6, over the definition. Assumes nothing.
+-- The bench readings P2 to P6, over the definition.
 use Prim.Native.Nat.{_+_, _-_, _^_}
 use mathlib.Core.Path.{_≡_, refl}
 use Rattle.limits.specs.Codes.{noName, address, uint, fixedBytes}

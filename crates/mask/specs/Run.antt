@@ -1,4 +1,4 @@
--- What the private function `low_run` promises. Assumes nothing.
+-- What the private function `low_run` promises.
 use Prim.Native.Nat.{ℕ, _+_, _^_, _≤_}
 use mathlib.Core.Path.{_≡_}
 

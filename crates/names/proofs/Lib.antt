@@ -1,2 +1,4 @@
 mod Ranges
 pub mod Codes
+pub mod Decimals
+pub mod Texts

@@ -1,6 +1,5 @@
 -- The types with no type inside, and their codes: "1 bool, 2 address, 3 bytes, 4 string, .. 1000 + bits uint, 2000 +
--- bits int, 3000 + bytes
--- fixed bytes"; "uint and int have 8 to 256 bits in eights, fixed bytes 1 to 32". Assumes nothing.
+-- bits int, 3000 + bytes fixed bytes"; "uint and int have 8 to 256 bits in eights, fixed bytes 1 to 32".
 use Prim.Native.Nat.{ℕ, _+_, _-_, _%_}
 use mathlib.Core.Bool.{Bool, true, cond, _&&_, _||_}
 use lib.Dec.{eqb, leb, ltb}
@@ -8,8 +7,7 @@ use Rattle.limits.specs.Between.{between}
 use Rattle.limits.specs.Codes as code
 
 -- (The ABI specification counts bytes and string apart, as dynamic types; the word here says only that no type is
--- inside.) uint and int by their bits,
--- fixed bytes by their bytes
+-- inside.) uint and int by their bits, fixed bytes by their bytes
 pub data Elementary : Type 0 where
   bool address bytes string : Elementary
   uint int : ℕ → Elementary
@@ -43,8 +41,7 @@ codeOf (int n) = code.int + n
 codeOf (fixedBytes n) = code.fixedBytes + n
 
 -- is the number the code of such a type? (`name-is-code`, `name-has-width`: a name is the code of a type of good width;
--- `code-is-name`: no other number is;
--- `of-code`: of one type only)
+-- `code-is-name`: no other number is; `of-code`: of one type only)
 unfoldable pub isName : ℕ → Bool
 isName c =
     between code.bool code.string c

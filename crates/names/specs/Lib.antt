@@ -1,2 +1,4 @@
 pub mod Elementary
+pub mod Ascii
+pub mod Decimal
 pub mod Text

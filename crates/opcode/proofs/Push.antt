@@ -1,4 +1,4 @@
--- `pushSize` inside and outside PUSH1 to PUSH4. Assumes nothing.
+-- `pushSize` inside and outside PUSH1 to PUSH4.
 use mathlib.Core.Path.{_≡_}
 use mathlib.Core.Bool.{and-false}
 use Prim.Native.Nat.{ℕ, _-_, _≤_, _<_}

@@ -1,10 +1,13 @@
--- What document 01 and `analyze` ask of an opcode, as their lists. Assumes nothing.
+-- What document 01 and `analyze` ask of an opcode, as their lists.
 use Prim.Native.Nat.{ℕ, _-_}
 use mathlib.Core.Bool.{Bool, false, cond, _||_}
 use mathlib.Core.List.{List, [], _∷_}
 use lib.Dec.{eqb}
 use Rattle.limits.specs.Between.{between}
-use Rattle.opcode.specs.Opcode.{ADD, MUL, SUB, DIV, MOD, EXP, LT, GT, EQ, ISZERO, AND, SHL, KECCAK256, BALANCE, CALLDATALOAD, EXTCODESIZE, EXTCODECOPY, EXTCODEHASH, MLOAD, SLOAD, SSTORE, JUMPI, TLOAD, TSTORE, PUSH0, PUSH1, PUSH4, LOG0, LOG1, LOG2, LOG3, LOG4, CREATE, CALL, CALLCODE, DELEGATECALL, CREATE2, STATICCALL, SELFDESTRUCT}
+use Rattle.opcode.specs.Opcode.{ADD, MUL, SUB, DIV, MOD, EXP, LT, GT, EQ, ISZERO, AND, SHL, KECCAK256, BALANCE}
+use Rattle.opcode.specs.Opcode.{CALLDATALOAD, EXTCODESIZE, EXTCODECOPY, EXTCODEHASH, MLOAD, SLOAD, SSTORE, JUMPI}
+use Rattle.opcode.specs.Opcode.{TLOAD, TSTORE, PUSH0, PUSH1, PUSH4, LOG0, LOG1, LOG2, LOG3, LOG4, CREATE, CALL}
+use Rattle.opcode.specs.Opcode.{CALLCODE, DELEGATECALL, CREATE2, STATICCALL, SELFDESTRUCT}
 
 -- does the opcode stand in the list?
 unfoldable pub listed : ℕ → List ℕ → Bool
@@ -12,18 +15,16 @@ listed op [] = false
 listed op (x ∷ xs) = eqb op x || listed op xs
 
 -- the opcodes at which `analyze` first looks at the operands' range hints. It clears them, at EQ only where both
--- operands are arguments. REVERT, at which
--- it clears all hints while the decoder is active, is apart
+-- operands are arguments. REVERT, at which it clears all hints while the decoder is active, is apart
 unfoldable pub operandClearers : List ℕ
 operandClearers = DIV ∷ MOD ∷ SUB ∷ EXP ∷ EQ ∷ ISZERO ∷ JUMPI ∷ SLOAD ∷ []
 
 -- "Each of SLOAD, SSTORE, TLOAD, TSTORE, KECCAK256, BALANCE, EXTCODESIZE, EXTCODEHASH, EXTCODECOPY, CALL, CALLCODE,
--- DELEGATECALL, STATICCALL,
--- CREATE, CREATE2, SELFDESTRUCT and LOG0 to LOG4 ends the decoder phase."
+-- DELEGATECALL, STATICCALL, CREATE, CREATE2, SELFDESTRUCT and LOG0 to LOG4 ends the decoder phase."
 unfoldable pub decoderEnders : List ℕ
 decoderEnders =
-    SLOAD ∷ SSTORE ∷ TLOAD ∷ TSTORE ∷ KECCAK256 ∷ BALANCE ∷ EXTCODESIZE ∷ EXTCODEHASH ∷ EXTCODECOPY ∷ CALL ∷ CALLCODE ∷ DELEGATECALL ∷
-    STATICCALL ∷ CREATE ∷ CREATE2 ∷ SELFDESTRUCT ∷ LOG0 ∷ LOG1 ∷ LOG2 ∷ LOG3 ∷ LOG4 ∷ []
+    SLOAD ∷ SSTORE ∷ TLOAD ∷ TSTORE ∷ KECCAK256 ∷ BALANCE ∷ EXTCODESIZE ∷ EXTCODEHASH ∷ EXTCODECOPY ∷ CALL ∷ CALLCODE
+    ∷ DELEGATECALL ∷ STATICCALL ∷ CREATE ∷ CREATE2 ∷ SELFDESTRUCT ∷ LOG0 ∷ LOG1 ∷ LOG2 ∷ LOG3 ∷ LOG4 ∷ []
 
 -- the opcodes whose first operand is named an address
 unfoldable pub calls : List ℕ

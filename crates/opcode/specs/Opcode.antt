@@ -1,5 +1,5 @@
 -- Opcodes by name: the Yellow Paper, appendix H.2, and evmole's op.rs for later ones; those that the definitions use so
--- far. Assumes nothing.
+-- far.
 use Prim.Native.Nat.{ℕ}
 
 abbrev pub ADD : ℕ

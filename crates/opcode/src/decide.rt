@@ -44,52 +44,46 @@ use crate::TSTORE;
 pub fn clears_operands(op: u8) -> bool
     ensures { λ r. ⌜ r ≡ listed op operandClearers ⌝ }
 {
-    (op == DIV)
-        | (op == MOD)
-        | (op == SUB)
-        | (op == EXP)
-        | (op == EQ)
-        | (op == ISZERO)
-        | (op == JUMPI)
-        | (op == SLOAD)
+    match op {
+        DIV | MOD | SUB | EXP | EQ | ISZERO | JUMPI | SLOAD => true,
+        _ => false,
+    }
 }
 
 // Does a step with this opcode end the decoder phase?
 pub fn ends_decoder(op: u8) -> bool
     ensures { λ r. ⌜ r ≡ listed op decoderEnders ⌝ }
 {
-    (op == SLOAD)
-        | (op == SSTORE)
-        | (op == TLOAD)
-        | (op == TSTORE)
-        | (op == KECCAK256)
-        | (op == BALANCE)
-        | (op == EXTCODESIZE)
-        | (op == EXTCODEHASH)
-        | (op == EXTCODECOPY)
-        | (op == CALL)
-        | (op == CALLCODE)
-        | (op == DELEGATECALL)
-        | (op == STATICCALL)
-        | (op == CREATE)
-        | (op == CREATE2)
-        | (op == SELFDESTRUCT)
-        | ((LOG0 <= op) & (op <= LOG4))
+    match op {
+        SLOAD
+        | SSTORE
+        | TLOAD
+        | TSTORE
+        | KECCAK256
+        | BALANCE
+        | EXTCODESIZE
+        | EXTCODEHASH
+        | EXTCODECOPY
+        | CALL
+        | CALLCODE
+        | DELEGATECALL
+        | STATICCALL
+        | CREATE
+        | CREATE2
+        | SELFDESTRUCT
+        | LOG0..=LOG4 => true,
+        _ => false,
+    }
 }
 
 // Question 7: does a step with this opcode need a slot on the stack?
 pub fn needs_slot(op: u8) -> bool
     ensures { λ r. ⌜ r ≡ listed op slotNeeders ⌝ }
 {
-    (op == CALLDATALOAD)
-        | (op == ADD)
-        | (op == MUL)
-        | (op == SHL)
-        | (op == LT)
-        | (op == GT)
-        | (op == AND)
-        | (op == ISZERO)
-        | (op == MLOAD)
+    match op {
+        CALLDATALOAD | ADD | MUL | SHL | LT | GT | AND | ISZERO | MLOAD => true,
+        _ => false,
+    }
 }
 
 // How many bytes PUSH1 to PUSH4 push; 0 for any other opcode. Guards and length checks know these four alone.

@@ -1,11 +1,11 @@
--- What the tests of the program say. Assumes nothing.
+-- What the tests of the program say.
 use Prim.Native.Nat.{ℕ, _+_, _≤_, _<_}
 use mathlib.Core.Path.{_≡_, refl, sym, ap, _∙_}
 use mathlib.Core.List.{List, [], _∷_}
 use native.Mathlib.Omega.{arith}
 use lib.ListN.{length}
 use Rattle.limits.specs.Limits.{recordsMax}
-use Rattle.facts.specs.Count.{recordCount}
+use Rattle.facts.specs.Checks.{recordCount}
 use Rattle.facts.specs.Fresh.{freshTable}
 use Rattle.facts.specs.State.{Node, root, encode}
 use Rattle.facts.specs.declared.Records.{Records}
@@ -13,7 +13,7 @@ use Rattle.facts.specs.declared.Records.the-variants.{Count}
 use Rattle.facts.proofs.Counts.{count-counted}
 use Rattle.facts.proofs.Lone.{fresh-sound}
 use Rattle.paths.specs.Find.{findIn}
-use Rattle.paths.specs.Make.{missing}
+use Rattle.paths.specs.Adds.{missing}
 use Rattle.paths.specs.Shape.{Shaped}
 use Rattle.paths.proofs.Finds.{missing-none}
 use Rattle.paths.proofs.Frame.{sound-shaped}

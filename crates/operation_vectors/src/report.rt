@@ -1,7 +1,7 @@
 // What is written.
 ghost use Prim.Native.Nat.{_≤_};
 ghost use Rattle.limits.specs.Limits.{recordsMax};
-ghost use Rattle.facts.specs.Table.{HasRecord};
+ghost use Rattle.facts.specs.Access.{HasRecord};
 ghost use Rattle.paths.specs.Shape.{Shaped};
 use limits::RECORD_WIDTH;
 use vectors::put;

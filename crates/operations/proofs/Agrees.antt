@@ -1,5 +1,4 @@
 -- Operations at and below one child of the root: the facts at and below every other one agree, and the root stays.
--- Assumes nothing.
 use Prim.Native.Nat.{ℕ}
 use mathlib.Core.Path.{_≡_}
 use mathlib.Core.List.{List, [], _∷_}

@@ -1,4 +1,4 @@
--- Operations at and below one child of the root: nothing changes elsewhere. Assumes nothing.
+-- Operations at and below one child of the root: nothing changes elsewhere.
 use Prim.Native.Nat.{ℕ}
 use mathlib.Core.Path.{_≡_, refl, sym, ap, subst}
 use mathlib.Core.List.{List, [], _∷_, _++_}

@@ -1,4 +1,4 @@
--- What the functions that an operation calls ask for, and what they leave. Assumes nothing.
+-- What the functions that an operation calls ask for, and what they leave.
 use Prim.Native.Nat.{ℕ, _≤_, _<_}
 use mathlib.Core.Path.{_≡_, refl, sym, ap, subst, _∙_}
 use mathlib.Core.List.{List}
@@ -10,7 +10,7 @@ use Rattle.facts.proofs.Encode.{length-nodes}
 use Rattle.paths.specs.Shape.{Shaped}
 use Rattle.paths.specs.Find.{findIn}
 use Rattle.paths.specs.Make.{Made, ensure}
-use Rattle.paths.specs.Holds.{Holds, Makes}
+use Rattle.paths.specs.Represents.{Represents, Makes}
 use Rattle.paths.specs.Adds.{AddsPath}
 use Rattle.paths.proofs.Finds.{missing-none}
 use Rattle.marks.specs.Grows.{Grows}
@@ -48,8 +48,8 @@ module _ (t : List ℕ) (u n p k count : ℕ) where
       (adds-dynamic (nodes t u) p k count) fits
 
   pub dynamic-done : (t₁ t₂ : List ℕ) (used r : ℕ) → Makes u (ensure (nodes t u) p k) t₁ used n r
-      → Holds t₂ used n (setDynamic (nodes t₁ used) r count)
-      → Holds t₂ used n (run (nodes t u) (SetDynamic p k count)) × (r ≡ ensure (nodes t u) p k .number)
+      → Represents t₂ used n (setDynamic (nodes t₁ used) r count)
+      → Represents t₂ used n (run (nodes t u) (SetDynamic p k count)) × (r ≡ ensure (nodes t u) p k .number)
   unfolding run
   dynamic-done t₁ t₂ used r M H =
       (record { shaped = H .shaped; state = H .state ∙ (λ i. setDynamic (M .state i) (M .number i) count) }, M .number)
@@ -88,14 +88,14 @@ module _ (t : List ℕ) (u n : ℕ) (o : Operation) where
     array-asks r count e = let R = subst (Reaches u) e (P .2) in (P .0, (R .from, R .to))
 
   -- what the call leaves is what the operation does
-  pub done : (v : Operation) → o ≡ v → (s : List Node) → run (nodes t u) v ≡ s → (t′ : List ℕ) (r : ℕ) → Holds t′ r n s
-      → Holds t′ r n (run (nodes t u) o)
+  pub done : (v : Operation) → o ≡ v → (s : List Node) → run (nodes t u) v ≡ s → (t′ : List ℕ) (r : ℕ) → Represents t′ r n s
+      → Represents t′ r n (run (nodes t u) o)
   done v e s q t′ r H = record { shaped = H .shaped; state = H .state ∙ sym q ∙ sym (ap (run (nodes t u)) e) }
 
   pub grown : (v : Operation) → o ≡ v → (s : List Node) → run (nodes t u) v ≡ s → (t′ : List ℕ) (r : ℕ)
-      → Grows u s t′ r n → Holds t′ r n (run (nodes t u) o)
+      → Grows u s t′ r n → Represents t′ r n (run (nodes t u) o)
   grown v e s q t′ r G = done v e s q t′ r (record { shaped = G .shaped; state = G .state })
 
   pub created : (v : Operation) → o ≡ v → (m : Made) → run (nodes t u) v ≡ m .state → (t′ : List ℕ) (used r : ℕ)
-      → Makes u m t′ used n r → Holds t′ used n (run (nodes t u) o)
+      → Makes u m t′ used n r → Represents t′ used n (run (nodes t u) o)
   created v e m q t′ used r M = done v e (m .state) q t′ used (record { shaped = M .shaped; state = M .state })

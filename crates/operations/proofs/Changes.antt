@@ -1,4 +1,4 @@
--- Which paths an operation adds: the one that it makes, if it was missing, and no other; none moves. Assumes nothing.
+-- Which paths an operation adds: the one that it makes, if it was missing, and no other; none moves.
 use Prim.Native.Nat.{ℕ}
 use mathlib.Core.Path.{_≡_, refl}
 use mathlib.Core.List.{List}

@@ -1,4 +1,4 @@
--- Hints cleared: what stays of each node as it was, and what is read off the facts then. Assumes nothing.
+-- Hints cleared: what stays of each node as it was, and what is read off the facts then.
 use Prim.Native.Nat.{ℕ, zero, suc, _+_, max}
 use mathlib.Core.Path.{_≡_, refl, ap, _∙_}
 use mathlib.Core.Bool.{Bool, true, false, cond}

@@ -1,4 +1,4 @@
--- What an operation leaves alone: nothing changes but at the path that it names and on the way to it. Assumes nothing.
+-- What an operation leaves alone: nothing changes but at the path that it names and on the way to it.
 use Prim.Native.Nat.{ℕ, _≤_, _<_, max}
 use mathlib.Core.Path.{_≡_, refl, ap, _∙_, subst}
 use mathlib.Core.Bool.{Bool, true, false, cond, _&&_, _||_}

@@ -1,5 +1,5 @@
 -- Hints cleared: no path is new, and one hint cleared changes the node at its path alone. What stays of a node that
--- changes is in Clears. Assumes nothing.
+-- changes is in Clears.
 use Prim.Native.Nat.{ℕ, _-_, _≤_, max}
 use mathlib.Core.Path.{_≡_, refl, ap, _∙_}
 use mathlib.Core.Bool.{Bool, true, false, cond}

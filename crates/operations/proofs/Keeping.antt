@@ -1,4 +1,4 @@
--- Formed facts stay formed, and a sound table stays sound. Assumes nothing.
+-- Formed facts stay formed, and a sound table stays sound.
 use Prim.Native.Nat.{ℕ}
 use mathlib.Core.List.{List, [], _∷_}
 use lib.ListN.{length}
@@ -7,7 +7,7 @@ use Rattle.facts.specs.Sound.{Sound}
 use Rattle.facts.specs.Formed.{Formed}
 use Rattle.facts.proofs.Encode.{length-nodes}
 use Rattle.paths.specs.Make.{ensure}
-use Rattle.paths.specs.Holds.{Holds}
+use Rattle.paths.specs.Represents.{Represents}
 use Rattle.paths.proofs.Reach.{ensure-range}
 use Rattle.paths.proofs.Sounds.{keeps-sound, formed-ensure, formed-create}
 use Rattle.marks.proofs.NameSounds.{formed-set-tname, formed-insert-not-bool, formed-mark-not-bool}
@@ -49,7 +49,7 @@ runAll-formed s (o ∷ os) F R T =
 
 -- by its contract
 pub run-sound : (t t′ : List ℕ) (used used′ n : ℕ) (o : Operation) → Sound t used n → Reaches used o → Stores o
-    → Holds t′ used′ n (run (nodes t used) o) → Sound t′ used′ n
+    → Represents t′ used′ n (run (nodes t used) o) → Sound t′ used′ n
 run-sound t t′ used used′ n o S R T H =
     keeps-sound (λ s. run s o) t t′ used used′ n
     (λ F. run-formed (nodes t used) o F (rw (length-nodes t used) R) T) S H

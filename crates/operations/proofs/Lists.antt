@@ -1,4 +1,4 @@
--- Operations one after another: what holds of each of a list of them, and how a run goes on. Assumes nothing.
+-- Operations one after another: what holds of each of a list of them, and how a run goes on.
 use Prim.Native.Nat.{ℕ, _≤_}
 use mathlib.Core.Path.{_≡_, refl, sym, ap, _∙_}
 use mathlib.Core.List.{List, [], _∷_, _++_}

@@ -1,4 +1,4 @@
--- A path made dynamic and then named: where it is found, and what its kind is. Assumes nothing.
+-- A path made dynamic and then named: where it is found, and what its kind is.
 use Prim.Native.Nat.{ℕ}
 use mathlib.Core.Path.{_≡_, refl, sym, ap, _∙_}
 use mathlib.Core.Bool.{Bool, true, false, cond, _&&_, _||_, and-eq-true-iff}
@@ -7,7 +7,8 @@ use native.Mathlib.Omega.{arith}
 use lib.Dec.{eqb, ltb}
 use Rattle.limits.specs.Codes as code
 use Rattle.limits.specs.Fields as field
-use Rattle.limits.specs.Limits.{kindDynamic, kindArray, rangeConfidence}
+use Rattle.limits.specs.Limits.{kindDynamic, kindArray}
+use Rattle.limits.specs.Confidences.{byRange}
 use Rattle.facts.specs.State.{Node, bare, nodeOf}
 use Rattle.paths.specs.Update.{withField, update}
 use Rattle.paths.specs.Find.{findIn}
@@ -80,7 +81,7 @@ module _ (g : Node → ℕ) (Y : Spares g field.seen) (N : Spares g field.name) 
       go : (b : Bool) → bars s p k v w ≡ b
           → g (nodeOf (cond b s (nameAt (makeSeen (m .state) (m .number)) (m .number) v w)) q) ≡ g (nodeOf (m .state) q)
       go true e =
-          let marked = and-eq-true-iff (eqb v code.bool || eqb w rangeConfidence) (isNotBool s p k) .0 e .1 in
+          let marked = and-eq-true-iff (eqb v code.bool || eqb w byRange) (isNotBool s p k) .0 e .1 in
           sym (ap (λ (x : Made). g (nodeOf (x .state) q)) (ensure-there s p k (marked-there s p k marked)))
       go false e =
           part-name-at (makeSeen (m .state) (m .number)) (m .number) v w q ∙ part-seen g (m .state) (m .number) q Y

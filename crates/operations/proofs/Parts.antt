@@ -1,4 +1,4 @@
--- A part of the nodes, as a store to another field leaves it. Assumes nothing.
+-- A part of the nodes, as a store to another field leaves it.
 use Prim.Native.Nat.{ℕ}
 use mathlib.Core.Path.{_≡_, refl, _∙_}
 use mathlib.Core.List.{List}

@@ -1,4 +1,4 @@
--- Question 8's count: what its functions ask for, and what they tell. Assumes nothing.
+-- Question 8's count: what its functions ask for, and what they tell.
 use Prim.Native.Nat.{ℕ, _+_, _-_, _≤_}
 use mathlib.Core.Path.{_≡_, refl, sym, ap, subst, _∙_}
 use mathlib.Core.Bool.{Bool, true, false, true≢false, cond, _||_}
@@ -8,10 +8,10 @@ use lib.Dec.{eqb, leb}
 use lib.ListN.{length}
 use borrow.Author.Tests.{eqb-true, eqb-false, le-leb, leb-true, leb-false, lt-leb}
 use Rattle.facts.specs.Table.{parentOf}
-use Rattle.facts.specs.Links.{Linked}
+use Rattle.facts.specs.Linked.{Linked}
 use Rattle.facts.specs.State.{Node, nodes}
 use Rattle.facts.proofs.Encode.{length-nodes}
-use Rattle.paths.specs.Make.{missing}
+use Rattle.paths.specs.Adds.{missing}
 use Rattle.paths.specs.Shape.{Shaped}
 use Rattle.operations.specs.declared.FullPath.{FullPath}
 use Rattle.operations.specs.declared.Operation.{Operation}

@@ -1,4 +1,4 @@
--- How many records an operation adds, and which paths are missing after it. Assumes nothing.
+-- How many records an operation adds, and which paths are missing after it.
 use Prim.Native.Nat.{ℕ, _+_, _≤_}
 use mathlib.Core.Path.{_≡_, refl, sym, ap, _∙_}
 use mathlib.Core.Bool.{Bool, true, false, true≢false, cond, _&&_, _||_, and-eq-true-iff}
@@ -10,7 +10,7 @@ use lib.ListN.{length}
 use borrow.Author.Tests.{eqb-true, eq-eqb, ne-eqb}
 use Rattle.facts.specs.State.{Node}
 use Rattle.paths.specs.Find.{findIn}
-use Rattle.paths.specs.Make.{missing}
+use Rattle.paths.specs.Adds.{missing}
 use Rattle.paths.proofs.Adds.{adds-missing, adds-missing-else, same-missing}
 use Rattle.operations.specs.declared.FullPath.{FullPath}
 use Rattle.operations.specs.declared.Operation.{Operation}

@@ -1,4 +1,4 @@
--- The nodes that stand before an operation: it leaves the key, the parent and so the depth of each. Assumes nothing.
+-- The nodes that stand before an operation: it leaves the key, the parent and so the depth of each.
 use Prim.Native.Nat.{ℕ, zero, suc, _≤_}
 use mathlib.Core.Path.{_≡_, refl, ap, _∙_}
 use mathlib.Core.Bool.{Bool, true, false, cond}

@@ -1,4 +1,4 @@
--- A node at one path changed, field by field: nothing else changes but on the way to it. Assumes nothing.
+-- A node at one path changed, field by field: nothing else changes but on the way to it.
 use Prim.Native.Nat.{ℕ, _≤_, _<_}
 use mathlib.Core.Path.{_≡_, ap, _∙_, subst}
 use mathlib.Core.Bool.{Bool, true, false, cond}

@@ -1,5 +1,5 @@
--- What an operation asks of the facts, and which path it makes: in these words one function promises something to
--- another. Assumes nothing: these are definitions.
+-- What an operation asks of the state, and which path it makes: in these words one function promises something to
+-- another.
 use Prim.Native.Nat.{ℕ, _≤_}
 use mathlib.Core.Path.{_≡_}
 use mathlib.Core.Bool.{Bool, true, cond, _&&_}
@@ -8,7 +8,7 @@ use lib.Dec.{eqb}
 use Rattle.limits.specs.Limits.{confidenceMax, arrayCountMax, dynamicCountMax}
 use Rattle.names.specs.Elementary.{isName}
 use Rattle.facts.specs.State.{Node}
-use Rattle.paths.specs.Make.{missing}
+use Rattle.paths.specs.Adds.{missing}
 use Rattle.operations.specs.declared.FullPath.{FullPath}
 use Rattle.operations.specs.declared.Operation.{Operation}
 use Rattle.operations.specs.declared.Operation.the-variants.{Nothing, ClearRangeHint, ClearRangeHints}

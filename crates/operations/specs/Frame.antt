@@ -1,5 +1,4 @@
--- Where an operation changes the facts: each but `clear_range_hints` names one path at most. Assumes nothing: these are
--- definitions.
+-- Where an operation changes the state: each but `clear_range_hints` names one path at most.
 use Prim.Native.Nat.{ℕ}
 use mathlib.Core.Path.{_≡_}
 use mathlib.Core.List.{List, [], _∷_, _++_}

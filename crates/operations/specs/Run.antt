@@ -1,5 +1,5 @@
--- What each operation does to the facts: the Rust's own, of `ArgsResult` and, for all hints, of `Info`; `InsertNotBool`
--- is `analyze`'s own insertion, the last two are `set_info`. Assumes nothing: these are definitions.
+-- What each operation does to the state: the Rust's own, of `ArgsResult` and, for all hints, of `Info`; `InsertNotBool`
+-- is `analyze`'s own insertion, the last two are `set_info`.
 use Prim.Native.Nat.{ℕ}
 use mathlib.Core.List.{List, [], _∷_}
 use Rattle.facts.specs.State.{Node}
@@ -16,7 +16,7 @@ use Rattle.operations.specs.declared.Operation.the-variants.{SetTname, S
 abbrev pub dynamicMade : Made → ℕ → List Node
 dynamicMade made count = setDynamic (made .state) (made .number) count
 
--- the facts after an operation
+-- the state after an operation
 unfoldable pub run : List Node → Operation → List Node
 run s Nothing = s
 run s (ClearRangeHint p k block) = clearRangeHint s p k block

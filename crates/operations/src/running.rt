@@ -6,7 +6,7 @@ ghost use Rattle.limits.specs.Limits.{recordsMax};
 ghost use Rattle.facts.specs.State.{nodes};
 ghost use Rattle.paths.specs.Shape.{Shaped};
 ghost use Rattle.paths.specs.Make.{ensure};
-ghost use Rattle.paths.specs.Holds.{Holds};
+ghost use Rattle.paths.specs.Represents.{Represents};
 ghost use Rattle.operations.specs.declared.Operation.the-variants.{SetDynamic};
 ghost use Rattle.operations.specs.Run.{run};
 ghost use Rattle.operations.specs.Asks.{IsUsed, Reaches};
@@ -33,7 +33,7 @@ pub fn make_dynamic(
 ) -> Reached
     requires { ⌜ Shaped (now table) used n × (n ≤ recordsMax) × IsUsed used path ⌝ }
     requires { ⌜ length (run (nodes (now table) used) (SetDynamic path offset count)) ≤ n ⌝ }
-    ensures { λ r. ⌜ Holds (now (table .exit)) (r .used) n
+    ensures { λ r. ⌜ Represents (now (table .exit)) (r .used) n
         (run (nodes (now (table .entry)) used) (SetDynamic path offset count)) ⌝ }
     ensures { λ r. ⌜ r .number ≡ ensure (nodes (now (table .entry)) used) path offset .number ⌝ }
 {
@@ -46,7 +46,7 @@ pub fn make_dynamic(
 pub fn run(table: &mut [u32], n: u32, used: u32, operation: Operation) -> u32
     requires { ⌜ Shaped (now table) used n × (n ≤ recordsMax) × Reaches used operation ⌝ }
     requires { ⌜ length (run (nodes (now table) used) operation) ≤ n ⌝ }
-    ensures { λ r. ⌜ Holds (now (table .exit)) r n (run (nodes (now (table .entry)) used) operation) ⌝ }
+    ensures { λ r. ⌜ Represents (now (table .exit)) r n (run (nodes (now (table .entry)) used) operation) ⌝ }
 {
     match operation {
         Operation::Nothing => used,

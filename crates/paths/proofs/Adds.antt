@@ -1,4 +1,4 @@
--- Each operation of this crate adds the stated path and no other, and moves none. Assumes nothing.
+-- Each operation of this crate adds the stated path and no other, and moves none.
 use Prim.Native.Nat.{ℕ, _-_, _≤_}
 use mathlib.Core.Path.{_≡_, refl, ap, _∙_}
 use mathlib.Core.Bool.{cond}
@@ -9,7 +9,8 @@ use lib.ListN.{length, getD, take}
 use borrow.Author.Tests.{ne-eqb}
 use Rattle.facts.specs.State.{Node, paths}
 use Rattle.paths.specs.Find.{findIn}
-use Rattle.paths.specs.Make.{ensure, missing, makeSeen, getOrCreate}
+use Rattle.paths.specs.Make.{ensure, makeSeen, getOrCreate}
+use Rattle.paths.specs.Adds.{missing}
 use Rattle.paths.specs.Order.{Ordered}
 use Rattle.paths.specs.Adds.{SamePaths, AddsPath}
 use Rattle.paths.proofs.Kept.{paths-ensure}

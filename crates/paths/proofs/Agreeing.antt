@@ -1,4 +1,4 @@
--- The fact at a path: what the node that a walk along the path finds says; and facts that agree. Assumes nothing.
+-- The fact at a path: what the node that a walk along the path finds says; and facts that agree.
 use Prim.Native.Nat.{ℕ}
 use mathlib.Core.Path.{_≡_, refl, sym, ap, _∙_}
 use mathlib.Core.List.{List, [], _∷_, _++_, append-nil, append-assoc}
@@ -6,7 +6,8 @@ use native.Mathlib.Omega.{arith}
 use Rattle.facts.specs.Formed.{Formed}
 use Rattle.facts.specs.State.{Node, nodeOf}
 use Rattle.paths.specs.Order.{Ordered}
-use Rattle.paths.specs.Path.{numberAt, FactAt, AgreeUnder}
+use Rattle.paths.specs.Path.{FactAt, AgreeUnder}
+use Rattle.paths.specs.Looking.{numberAt}
 use Rattle.paths.proofs.PathLaws.{Stands, number-stands, stands-number}
 
 -- r is seen, with this kind, count and name

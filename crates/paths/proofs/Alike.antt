@@ -1,5 +1,4 @@
--- States with the same paths: a change that keeps each node's key and parent keeps numbers, paths and lookups. Assumes
--- nothing.
+-- States with the same paths: a change that keeps each node's key and parent keeps numbers, paths and lookups.
 use Prim.Native.Nat.{ℕ, zero, suc, _+_, _-_, _≤_}
 use mathlib.Core.Path.{_≡_, refl, sym, ap, _∙_}
 use mathlib.Core.Bool.{Bool, true, false, cond, _&&_}

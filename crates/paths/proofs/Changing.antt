@@ -1,4 +1,4 @@
--- What the operations of this crate leave alone: a field stored, a path made, a path made seen. Assumes nothing.
+-- What the operations of this crate leave alone: a field stored, a path made, a path made seen.
 use Prim.Native.Nat.{ℕ, zero, suc, _+_, _-_, _≤_, _<_}
 use mathlib.Core.Path.{_≡_, refl, sym, ap, _∙_, subst}
 use mathlib.Core.Bool.{Bool, true, false, cond}
@@ -18,10 +18,13 @@ use Rattle.paths.specs.Update.{withField, update}
 use Rattle.paths.specs.Find.{findIn}
 use Rattle.paths.specs.Make.{Made, ensure, seenUp, makeSeen, getOrCreate}
 use Rattle.paths.specs.Order.{Ordered}
-use Rattle.paths.specs.Path.{pathOf, numberAt, FactAt, AgreeUnder}
+use Rattle.paths.specs.Path.{pathOf, FactAt, AgreeUnder}
+use Rattle.paths.specs.Looking.{numberAt}
 use Rattle.paths.specs.Changes.{Starts, Begins, Toward, Changes, ChangesOnly, ChangesBelow}
-use Rattle.paths.proofs.Kept.{length-update, paths-update, length-seen, paths-seen, paths-ensure, seen-else, seen-stays}
-use Rattle.paths.proofs.Reach.{path-of, update-other, ordered-update, length-ensure, ensure-path, ensure-range, ensure-node, ordered-ensure, create-path, create-named}
+use Rattle.paths.proofs.Kept.{length-update, paths-update, length-seen, paths-seen, paths-ensure, seen-else}
+use Rattle.paths.proofs.Kept.{seen-stays}
+use Rattle.paths.proofs.Reach.{path-of, update-other, ordered-update, length-ensure, ensure-path, ensure-range}
+use Rattle.paths.proofs.Reach.{ensure-node, ordered-ensure, create-path, create-named}
 use Rattle.paths.proofs.Lookups.{ensure-there, ensure-new}
 use Rattle.paths.proofs.Sounds.{formed-ordered}
 use Rattle.paths.proofs.PathLaws.{Stands, root-stands, path-some, number-stands, stands-number}

@@ -1,11 +1,12 @@
--- Counting the keys of a path, one record a turn. Assumes nothing.
+-- Counting the keys of a path, one record a turn.
 use Prim.Native.Nat.{ℕ, zero, suc, _+_, _≤_, _<_, _^_}
 use mathlib.Core.Path.{_≡_, refl, sym, ap, _∙_}
 use mathlib.Core.List.{List}
 use native.Mathlib.Omega.{arith}
 use borrow.Author.Tests.{le-leb, lt-leb}
 use Rattle.limits.specs.Limits.{recordWidth}
-use Rattle.facts.specs.Table.{Has, parentOf}
+use Rattle.facts.specs.Table.{parentOf}
+use Rattle.facts.specs.Access.{Has}
 use Rattle.facts.specs.State.{Node, nodes, nodeOf}
 use Rattle.facts.proofs.Encode.{nodes-get}
 use Rattle.paths.specs.Shape.{Shaped}
@@ -35,7 +36,7 @@ deep-end (suc m) s c z = rw (le-leb c 1 z) refl
 
 module _ (t : List ℕ) (used N r depth c : ℕ) (W : Deeper t used N r depth c) (n : 1 < c) where
   pub deep-has : (f : ℕ) → f < recordWidth → Has t c f
-  deep-has f h = let w = W .shaped .linked .whole in let l = W .low in record { from = omega arith; within = omega arith; one = h }
+  deep-has f h = let w = W .shaped .linked .whole in let l = W .low in record { from = omega arith; within = omega arith; field = h }
 
   pub deep-fits : used < 2 ^ 32 → depth + 1 < 2 ^ 32
   deep-fits h = let l = W .low in omega arith

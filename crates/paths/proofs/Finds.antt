@@ -1,4 +1,4 @@
--- What a walk of the chain finds is what the state has. Assumes nothing.
+-- What a walk of the chain finds is what the state has.
 use Prim.Native.Nat.{ℕ, zero, suc, _+_, _≤_, _<_}
 use mathlib.Core.Path.{_≡_, refl, sym, ap, _∙_}
 use mathlib.Core.Bool.{Bool, true, false, cond, _&&_}
@@ -10,13 +10,15 @@ use native.Mathlib.Decide.{ℕ-discrete}
 use lib.Dec.{eqb}
 use borrow.Author.Tests.{eqb-true, eqb-false, eq-eqb, ne-eqb}
 use Rattle.facts.specs.Table.{keyOf, parentOf, seenOf}
-use Rattle.facts.specs.Links.{Kid, Linked}
+use Rattle.facts.specs.Links.{Kid}
+use Rattle.facts.specs.Linked.{Linked}
 use Rattle.facts.specs.State.{Node, nodes, nodeOf, bare}
 use Rattle.facts.proofs.Encode.{length-nodes, nodes-get}
 use Rattle.paths.specs.Shape.{Shaped}
 use Rattle.paths.specs.Find.{findTo, findIn, getMut}
-use Rattle.paths.specs.Make.{ensure, missing}
-use Rattle.paths.specs.Holds.{Holds, Makes}
+use Rattle.paths.specs.Make.{ensure}
+use Rattle.paths.specs.Adds.{missing}
+use Rattle.paths.specs.Represents.{Represents, Makes}
 use Rattle.paths.proofs.Walk.{Found}
 use Rattle.paths.proofs.Spotting.{Absent}
 
@@ -129,7 +131,7 @@ ensured-old t u N p k r S e ru n =
     record { shaped = S; state = rw q refl; number = rw q e; range = (omega arith, ru, omega arith, omega arith) }
 
 -- it was added
-pub ensured-new : (t : List ℕ) (u N p k : ℕ) (t′ : List ℕ) → findIn (nodes t u) p k ≡ 0 → Holds t′ (u + 1) N (nodes t u ++ bare p k ∷ [])
+pub ensured-new : (t : List ℕ) (u N p k : ℕ) (t′ : List ℕ) → findIn (nodes t u) p k ≡ 0 → Represents t′ (u + 1) N (nodes t u ++ bare p k ∷ [])
     → Makes u (ensure (nodes t u) p k) t′ (u + 1) N (u + 1)
 unfolding ensure
 ensured-new t u N p k t′ z H =

@@ -1,4 +1,4 @@
--- A store to a field that is no link: it keeps the links, and changes one field of one node. Assumes nothing.
+-- A store to a field that is no link: it keeps the links, and changes one field of one node.
 use Prim.Native.Nat.{ℕ, zero, suc, _+_, _*_, _≤_, _<_}
 use mathlib.Core.Path.{_≡_, refl, sym, ap, _∙_}
 use mathlib.Core.Bool.{Bool, true, false, cond}
@@ -10,8 +10,10 @@ use lib.ListN.{length, getD, set, length-set}
 use lib.Seq.{ext-getD, getD-set-same, getD-set-other}
 use borrow.Author.Tests.{eqb-true, eqb-false}
 use Rattle.limits.specs.Limits.{recordWidth}
-use Rattle.facts.specs.Table.{fld, put, keyOf, childOf, nextOf}
-use Rattle.facts.specs.Links.{Kid, First, Linked}
+use Rattle.facts.specs.Table.{fld, keyOf, childOf, nextOf}
+use Rattle.facts.specs.Access.{put}
+use Rattle.facts.specs.Links.{Kid}
+use Rattle.facts.specs.Linked.{First, Linked}
 use Rattle.facts.specs.State.{Node, nodeAt, nodes, nodeOf, bare, encode}
 use Rattle.facts.specs.Sound.{Sound}
 use Rattle.facts.proofs.Laws.{length-put, put-same, put-else}
@@ -19,7 +21,7 @@ use Rattle.facts.proofs.Chains.{chained-linked}
 use Rattle.facts.proofs.Encode.{length-nodes, nodes-get, encode-is}
 use Rattle.paths.specs.Shape.{Shaped}
 use Rattle.paths.specs.Update.{withField, update}
-use Rattle.paths.specs.Holds.{Holds}
+use Rattle.paths.specs.Represents.{Represents}
 
 -- the links depend on the first four fields of the used records alone
 module _ (t t′ : List ℕ) (u : ℕ) (len : length t′ ≡ length t) (same : (r f : ℕ) → 1 ≤ r → r ≤ u → f < 4 → fld t′ r f ≡ fld t r f) where
@@ -139,7 +141,7 @@ sound-shaped t used N S = record {
 }
 
 -- a store to a field that is no link changes that field of that node
-pub stored : (t : List ℕ) (used N r f v : ℕ) → Shaped t used N → 1 ≤ r → r ≤ used → 4 ≤ f → f < recordWidth → Holds (put t r f v) used N (update (nodes t used) r f v)
+pub stored : (t : List ℕ) (used N r f v : ℕ) → Shaped t used N → 1 ≤ r → r ≤ used → 4 ≤ f → f < recordWidth → Represents (put t r f v) used N (update (nodes t used) r f v)
 stored t u N r f v S r1 ru f3 fl = record {
   shaped = record {
     size = length-put t r f v ∙ S .size;

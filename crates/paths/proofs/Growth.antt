@@ -1,4 +1,4 @@
--- A new child: the links and the state after the stores. Assumes nothing.
+-- A new child: the links and the state after the stores.
 use Prim.Native.Nat.{ℕ, zero, suc, _+_, _*_, _≤_, _<_}
 use mathlib.Core.Path.{_≡_, refl, sym, ap, _∙_}
 use mathlib.Core.Logic.{_⊎_, inl, inr, ⊎-elim}
@@ -9,12 +9,14 @@ use native.Mathlib.Nat.{eq-or-lt-of-le}
 use native.Mathlib.Numerals.{add-one}
 use lib.ListN.{length}
 use Rattle.limits.specs.Limits.{recordWidth}
-use Rattle.facts.specs.Table.{fld, put, keyOf, parentOf, childOf, nextOf, Blank}
-use Rattle.facts.specs.Links.{Kid, First, Linked}
+use Rattle.facts.specs.Table.{fld, keyOf, parentOf, childOf, nextOf, Blank}
+use Rattle.facts.specs.Access.{put}
+use Rattle.facts.specs.Links.{Kid}
+use Rattle.facts.specs.Linked.{First, Linked}
 use Rattle.facts.specs.State.{nodeAt, nodes, bare}
 use Rattle.facts.proofs.Laws.{lt-or-ge, length-put, put-same, put-else}
 use Rattle.paths.specs.Shape.{Shaped}
-use Rattle.paths.specs.Holds.{Holds}
+use Rattle.paths.specs.Represents.{Represents}
 use Rattle.paths.specs.Place.{Place}
 use Rattle.paths.proofs.Spotting.{Absent, Gap, gap}
 
@@ -342,7 +344,7 @@ nodes-add t n = ap (nodes t) (add-one n) ∙ ap (λ (m : ℕ). nodes t n ++ node
 
 -- the new record is the next one, and the state has one node more
 pub inserted : (t : List ℕ) (u N p k prev c : ℕ) (t′ : List ℕ) → Shaped t u N → 1 ≤ p → p ≤ u → u < N
-    → Absent t u p k → Place t u p k prev c → Grown t u p k prev c t′ → Holds t′ (u + 1) N (nodes t u ++ bare p k ∷ [])
+    → Absent t u p k → Place t u p k prev c → Grown t u p k prev c t′ → Represents t′ (u + 1) N (nodes t u ++ bare p k ∷ [])
 inserted t u N p k prev c t′ S p1 pu uN A P G = let Q = gap t u p k prev c A P in record {
   shaped = record {
     size = G .len ∙ S .size;

@@ -1,4 +1,4 @@
--- What a change of the state keeps: numbers and paths never change, and a seen path stays seen. Assumes nothing.
+-- What a change of the state keeps: numbers and paths never change, and a seen path stays seen.
 use Prim.Native.Nat.{ℕ, zero, suc, _+_, _-_, _≤_}
 use mathlib.Core.Path.{_≡_, refl, ap, _∙_}
 use mathlib.Core.Bool.{Bool, true, false, cond}

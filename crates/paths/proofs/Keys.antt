@@ -1,6 +1,4 @@
 -- Paths that begin with others, and the first key of a path: all on the way to it have it too, but for the root.
--- Assumes
--- nothing.
 use Prim.Native.Nat.{ℕ, zero, suc, _≤_, _<_}
 use mathlib.Core.Path.{_≡_, refl, sym, ap, _∙_}
 use mathlib.Core.Logic.{_⊎_, inl, inr}

@@ -1,5 +1,5 @@
 -- Paths and numbers are inverse: no two nodes of a formed state have one path, a path's last key is its node's, and a
--- walk from the root along a node's path finds it. Assumes nothing.
+-- walk from the root along a node's path finds it.
 use Prim.Native.Nat.{ℕ, zero, suc, _-_, _≤_, _<_}
 use mathlib.Core.Path.{_≡_, refl, sym, ap, _∙_}
 use mathlib.Core.Bool.{Bool, true, false, cond}
@@ -14,7 +14,8 @@ use Rattle.facts.specs.Formed.{Formed}
 use Rattle.facts.specs.State.{Node, nodeOf, pathsFrom, paths}
 use Rattle.paths.specs.Find.{findIn}
 use Rattle.paths.specs.Order.{Ordered}
-use Rattle.paths.specs.Path.{pathOf, numberFrom, numberAt}
+use Rattle.paths.specs.Path.{pathOf}
+use Rattle.paths.specs.Looking.{numberFrom, numberAt}
 use Rattle.paths.proofs.Reach.{path-of}
 use Rattle.paths.proofs.Lookups.{found-node, found-above, none-found}
 use Rattle.paths.proofs.Sounds.{formed-ordered}

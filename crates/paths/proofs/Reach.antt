@@ -1,4 +1,4 @@
--- The number that is made is the path's own, and a path that is seen stands under seen paths. Assumes nothing.
+-- The number that is made is the path's own, and a path that is seen stands under seen paths.
 use Prim.Native.Nat.{ℕ, zero, suc, _+_, _-_, _≤_, _<_}
 use mathlib.Core.Path.{_≡_, refl, sym, ap, _∙_}
 use mathlib.Core.Bool.{Bool, true, false, cond, _&&_}
@@ -19,9 +19,11 @@ use Rattle.facts.proofs.Encode.{length-nodes, nodes-get}
 use Rattle.paths.specs.Shape.{Shaped}
 use Rattle.paths.specs.Update.{withField, update}
 use Rattle.paths.specs.Find.{findTo, findIn}
-use Rattle.paths.specs.Make.{Made, ensure, missing, seenUp, makeSeen, getOrCreate}
+use Rattle.paths.specs.Make.{Made, ensure, seenUp, makeSeen, getOrCreate}
+use Rattle.paths.specs.Adds.{missing}
 use Rattle.paths.specs.Order.{Ordered, UnderSeen}
-use Rattle.paths.proofs.Kept.{length-paths, length-seen, seen-key, seen-parent, paths-add, paths-seen, update-parent, update-seen, length-update, now-seen}
+use Rattle.paths.proofs.Kept.{length-paths, length-seen, seen-key, seen-parent, paths-add, paths-seen}
+use Rattle.paths.proofs.Kept.{update-parent, update-seen, length-update, now-seen}
 
 pub shaped-ordered : (t : List ℕ) (used N : ℕ) → Shaped t used N → Ordered (nodes t used)
 shaped-ordered t used N S = record {

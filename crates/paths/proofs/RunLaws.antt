@@ -1,4 +1,4 @@
--- A run of a chain: children whose numbers follow each other, from the record c₀ to c. Assumes nothing.
+-- A run of a chain: children whose numbers follow each other, from the record c₀ to c.
 use Prim.Native.Nat.{ℕ, _+_, _≤_, _<_}
 use mathlib.Core.Path.{_≡_}
 use mathlib.Core.List.{List}

@@ -1,4 +1,4 @@
--- Making a path seen, one record a turn. Assumes nothing.
+-- Making a path seen, one record a turn.
 use Prim.Native.Nat.{ℕ, zero, suc, _≤_, _<_}
 use mathlib.Core.Path.{_≡_, refl, sym, ap, _∙_}
 use mathlib.Core.Logic.{⊎-elim}
@@ -8,13 +8,14 @@ use native.Mathlib.Nat.{eq-or-lt-of-le}
 use borrow.Author.Tests.{eq-eqb, ne-eqb}
 use Rattle.limits.specs.Limits.{recordWidth}
 use Rattle.limits.specs.Fields as field
-use Rattle.facts.specs.Table.{Has, parentOf}
+use Rattle.facts.specs.Table.{parentOf}
+use Rattle.facts.specs.Access.{Has}
 use Rattle.facts.specs.State.{Node, nodes, nodeOf}
 use Rattle.facts.proofs.Encode.{nodes-get}
 use Rattle.paths.specs.Shape.{Shaped}
 use Rattle.paths.specs.Update.{update}
 use Rattle.paths.specs.Make.{seenUp, makeSeen, ensure, getOrCreate}
-use Rattle.paths.specs.Holds.{Holds, Makes}
+use Rattle.paths.specs.Represents.{Represents, Makes}
 
 -- the turns left at c come to what all of them came to
 pub record Climb (s : List Node) (r : ℕ) (t : List ℕ) (used N c : ℕ) : Type 0 where
@@ -46,13 +47,13 @@ seen-end (suc m) s c z = rw (eq-eqb c 0 z) refl
 
 pub climb-has : (s : List Node) (r : ℕ) (t : List ℕ) (used N c f : ℕ) → Climb s r t used N c → (c ≡ 0 → ⊥) → f < recordWidth → Has t c f
 climb-has s r t used N c f C n h =
-    let w = C .shaped .linked .whole in let l = C .low in record { from = omega arith; within = omega arith; one = h }
+    let w = C .shaped .linked .whole in let l = C .low in record { from = omega arith; within = omega arith; field = h }
 
 pub climb-less : (s : List Node) (r : ℕ) (t : List ℕ) (used N c c′ : ℕ) → Climb s r t used N c → (c ≡ 0 → ⊥) → c′ ≡ parentOf t c → c′ < c
 climb-less s r t used N c c′ C n e = let h = parent-low t used N c (C .shaped) (omega arith) (C .low) in omega arith
 
 pub climb-next : (s : List Node) (r : ℕ) (t : List ℕ) (used N c : ℕ) (t′ : List ℕ) (c′ : ℕ) → Climb s r t used N c → (c ≡ 0 → ⊥) → c′ ≡ parentOf t c
-    → Holds t′ used N (update (nodes t used) c field.seen 1) → Climb s r t′ used N c′
+    → Represents t′ used N (update (nodes t used) c field.seen 1) → Climb s r t′ used N c′
 climb-next s r t used N c t′ c′ C n e H = go (C .turns) (C .enough) (C .same)
   where
     less : c′ < c
@@ -71,12 +72,12 @@ climb-next s r t used N c t′ c′ C n e H = go (C .turns) (C .enough) (C .same
       same = (λ i. seenUp m (H .state i) (sym parent-is i)) ∙ sym (seen-turn m (nodes t used) c n) ∙ q;
     }
 
-pub climb-done : (s : List Node) (r : ℕ) (t : List ℕ) (used N c : ℕ) → Climb s r t used N c → c ≡ 0 → Holds t used N (makeSeen s r)
+pub climb-done : (s : List Node) (r : ℕ) (t : List ℕ) (used N c : ℕ) → Climb s r t used N c → c ≡ 0 → Represents t used N (makeSeen s r)
 climb-done s r t used N c C z = record { shaped = C .shaped; state = sym (seen-end (C .turns) (nodes t used) c z) ∙ C .same }
 
 -- made, then made seen
 pub created : (u : ℕ) (s : List Node) (p k : ℕ) (t : List ℕ) (used N r : ℕ) (t′ : List ℕ) → Makes u (ensure s p k) t used N r
-    → Holds t′ used N (makeSeen (nodes t used) r) → Makes u (getOrCreate s p k) t′ used N r
+    → Represents t′ used N (makeSeen (nodes t used) r) → Makes u (getOrCreate s p k) t′ used N r
 unfolding getOrCreate
 created u s p k t used N r t′ M H = record {
   shaped = H .shaped;

@@ -1,5 +1,4 @@
--- A formed state stays formed when a path is made or made seen, and a table that holds a formed state is sound. Assumes
--- nothing.
+-- A formed state stays formed when a path is made or made seen, and a table that holds a formed state is sound.
 use Prim.Native.Nat.{ℕ, zero, suc, _+_, _≤_, _<_}
 use mathlib.Core.Path.{_≡_, refl, sym, ap, _∙_}
 use mathlib.Core.Bool.{Bool, true, false, cond, _&&_, and-eq-true-iff}
@@ -14,7 +13,8 @@ use lib.Seq.{getD-set-same}
 use borrow.Author.Tests.{eqb-true}
 use Rattle.limits.specs.Fields as field
 use Rattle.facts.specs.State.{Node, bare, root, nodes, nodeOf, encode}
-use Rattle.facts.specs.Fact.{areFlags, isRecord}
+use Rattle.facts.specs.Fact.{areFlags}
+use Rattle.facts.specs.Checks.{isRecord}
 use Rattle.facts.specs.Sound.{Sound}
 use Rattle.facts.specs.Formed.{Formed, TableOf}
 use Rattle.facts.proofs.Encode.{length-nodes}
@@ -23,16 +23,17 @@ use Rattle.facts.proofs.Whole.{fact-parts, parts-fact}
 use Rattle.paths.specs.Update.{withField, update}
 use Rattle.paths.specs.Find.{findIn}
 use Rattle.paths.specs.Make.{Made, ensure, makeSeen, getOrCreate}
-use Rattle.paths.specs.Holds.{Holds}
+use Rattle.paths.specs.Represents.{Represents}
 use Rattle.paths.specs.Order.{Ordered, UnderSeen}
 use Rattle.paths.proofs.Frame.{shaped-encode}
 use Rattle.paths.proofs.Kept.{length-update, seen-keeps}
-use Rattle.paths.proofs.Reach.{under-seen, ordered-ensure, under-ensure, ensure-range, add-node, last-node, update-other}
+use Rattle.paths.proofs.Reach.{under-seen, ordered-ensure, under-ensure, ensure-range, add-node, last-node}
+use Rattle.paths.proofs.Reach.{update-other}
 use Rattle.paths.proofs.Alike.{Alike, alike-update, alike-twice, alike-seen, map-node, alike-map}
 use Rattle.paths.proofs.Lookups.{none-found}
 
 -- tables and states: the way out (`sound-formed` is the way in)
-pub held-sound : (t : List ℕ) (used N : ℕ) (s : List Node) → Holds t used N s → Formed s → Sound t used N
+pub held-sound : (t : List ℕ) (used N : ℕ) (s : List Node) → Represents t used N s → Formed s → Sound t used N
 held-sound t used N s H F =
     let E : TableOf t used N = record {
       state = s;
@@ -46,7 +47,7 @@ held-sound t used N s H F =
 -- an operation that keeps formed states formed keeps sound tables sound
 pub keeps-sound : (op : List Node → List Node) (t t′ : List ℕ) (used used′ N : ℕ) → (Formed (nodes t used) → Formed (op (nodes t used)))
     → Sound t used N
-    → Holds t′ used′ N (op (nodes t used)) → Sound t′ used′ N
+    → Represents t′ used′ N (op (nodes t used)) → Sound t′ used′ N
 keeps-sound op t t′ used used′ N f S H = held-sound t′ used′ N (op (nodes t used)) H (f (sound-formed t used N S))
 
 -- a number of a sound table's record is a node's

@@ -1,4 +1,4 @@
--- The walk that looks for a key's place. Assumes nothing.
+-- The walk that looks for a key's place.
 use Prim.Native.Nat.{ℕ, _+_, _≤_, _<_}
 use mathlib.Core.Path.{_≡_, refl}
 use mathlib.Core.Logic.{⊎-elim}
@@ -6,7 +6,8 @@ use mathlib.Core.List.{List}
 use native.Mathlib.Omega.{arith}
 use native.Mathlib.Decide.{ℕ-discrete}
 use Rattle.facts.specs.Table.{keyOf, parentOf, childOf, nextOf}
-use Rattle.facts.specs.Links.{Kid, First, Linked}
+use Rattle.facts.specs.Links.{Kid}
+use Rattle.facts.specs.Linked.{First, Linked}
 use Rattle.facts.proofs.Laws.{lt-or-ge}
 use Rattle.paths.specs.Place.{Before, Place}
 use Rattle.paths.proofs.Walk.{Found, At}

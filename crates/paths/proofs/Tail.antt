@@ -1,4 +1,4 @@
--- A walk over the children of p: what is left of the list of them, and what is read on the way. Assumes nothing.
+-- A walk over the children of p: what is left of the list of them, and what is read on the way.
 use Prim.Native.Nat.{ℕ, _-_, _*_, _+_, _^_, _≤_, _<_}
 use mathlib.Core.Path.{_≡_, refl, sym, ap, _∙_}
 use mathlib.Core.Logic.{inl, inr}
@@ -8,9 +8,11 @@ use mir.Val.{Fits}
 use mir.Syntax.{w32}
 use lib.ListN.{getD}
 use Rattle.limits.specs.Limits.{recordWidth}
-use Rattle.facts.specs.Table.{Has, fld, keyOf, childOf, nextOf}
-use Rattle.facts.specs.Links.{Kid, Linked, In, Seg}
-use Rattle.facts.specs.State.{kidsOf}
+use Rattle.facts.specs.Table.{fld, keyOf, childOf, nextOf}
+use Rattle.facts.specs.Access.{Has}
+use Rattle.facts.specs.Links.{Kid, In, Seg}
+use Rattle.facts.specs.Linked.{Linked}
+use Rattle.facts.specs.Linked.{kidsOf}
 use Rattle.facts.proofs.Kids.{chain-kids, kids-in}
 use Rattle.paths.specs.Shape.{Shaped}
 use Rattle.paths.proofs.Walk.{At, left, at-less}
@@ -22,7 +24,7 @@ key-fits t h c = h ((c - 1) * recordWidth + 0) .fits
 
 -- a used record can be read
 pub has-field : (t : List ℕ) (used N r f : ℕ) → Shaped t used N → 1 ≤ r → r ≤ used → f < recordWidth → Has t r f
-has-field t used N r f S r1 ru h = let w = S .linked .whole in record { from = r1; within = omega arith; one = h }
+has-field t used N r f S r1 ru h = let w = S .linked .whole in record { from = r1; within = omega arith; field = h }
 
 -- the next child of p has a higher key, so that less is left
 pub next-less : (t : List ℕ) (u p c c′ : ℕ) → Linked t u → 1 ≤ p → p ≤ u → Kid t u p c → keyOf t c < 2 ^ 32 → c′ ≡ nextOf t c

@@ -1,11 +1,13 @@
--- A walk of the chain of p. Assumes nothing.
+-- A walk of the chain of p.
 use Prim.Native.Nat.{ℕ, zero, suc, _+_, _-_, _^_, _≤_, _<_}
 use mathlib.Core.Path.{_≡_, refl}
 use mathlib.Core.List.{List}
 use native.Mathlib.Omega.{arith}
 use Rattle.limits.specs.Limits.{recordWidth}
-use Rattle.facts.specs.Table.{Has, keyOf, childOf, nextOf}
-use Rattle.facts.specs.Links.{Kid, First, Linked}
+use Rattle.facts.specs.Table.{keyOf, childOf, nextOf}
+use Rattle.facts.specs.Access.{Has}
+use Rattle.facts.specs.Links.{Kid}
+use Rattle.facts.specs.Linked.{First, Linked}
 
 -- r is the child of p with the key k, 0 if there is none
 pub record Found (t : List ℕ) (u p k r : ℕ) : Type 0 where
@@ -36,7 +38,7 @@ left-none (suc c) k n = absurd (omega arith)
 
 -- a child has its fields
 pub kid-has : (t : List ℕ) (u p c f : ℕ) → Linked t u → Kid t u p c → f < recordWidth → Has t c f
-kid-has t u p c f L d h = let a = d .above in let b = d .used in let w = L .whole in record { from = omega arith; within = omega arith; one = h }
+kid-has t u p c f L d h = let a = d .above in let b = d .used in let w = L .whole in record { from = omega arith; within = omega arith; field = h }
 
 module _ (t : List ℕ) (u p : ℕ) (L : Linked t u) (p1 : 1 ≤ p) (pu : p ≤ u) where
   pub at-start : (k c : ℕ) → c ≡ childOf t p → At t u p k c

@@ -1,13 +1,18 @@
 -- What a change of the state does to numbers, paths and lookups: "New records .. take the next free numbers", and no
--- other moves. Assumes nothing: these are
--- definitions.
+-- other moves. In these words one function promises another; no outcome is written with them.
 use Prim.Native.Nat.{ℕ, _+_}
 use mathlib.Core.Path.{_≡_}
+use mathlib.Core.Bool.{cond}
 use mathlib.Core.List.{List}
+use lib.Dec.{eqb}
 use lib.ListN.{length, take}
 use Rattle.facts.specs.State.{Node, paths}
 use Rattle.paths.specs.Find.{findIn}
-use Rattle.paths.specs.Make.{ensure, missing}
+use Rattle.paths.specs.Make.{ensure}
+
+-- how many paths are added by making sure of the path of p with the key k
+unfoldable pub missing : List Node → ℕ → ℕ → ℕ
+missing s p k = cond (eqb (findIn s p k) 0) 1 0
 
 -- s′ has the paths of s under the same numbers, and no other
 pub record SamePaths (s s′ : List Node) : Type 0 where

@@ -1,5 +1,5 @@
 -- What a change of the state leaves alone, said of paths: "new paths take the next numbers", the others keep theirs,
--- and no node changes but at the paths that are named. Assumes nothing: these are definitions.
+-- and no node changes but at the paths that are named.
 use Prim.Native.Nat.{ℕ, _≤_, _<_}
 use mathlib.Core.Path.{_≡_}
 use mathlib.Core.List.{List, [], _∷_}

@@ -1,4 +1,4 @@
--- "A fact's depth is the number of keys on its path from the root." Assumes nothing: these are definitions.
+-- "A fact's depth is the number of keys on its path from the root."
 use Prim.Native.Nat.{ℕ, zero, suc}
 use mathlib.Core.Bool.{cond}
 use mathlib.Core.List.{List}

@@ -1,6 +1,5 @@
 -- Looking a path up: the path of p with the key k at its end, seen or not, and seen only, as the Rust's `get_mut` does.
--- "Children of one record form a chain
--- through next, keys strictly rising", so there is one at most. Assumes nothing: these are definitions.
+-- "Children of one record form a chain through next, keys strictly rising", so there is one at most.
 use Prim.Native.Nat.{ℕ, zero, suc}
 use mathlib.Core.Bool.{cond, _&&_}
 use mathlib.Core.List.{List}

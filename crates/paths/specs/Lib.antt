@@ -2,10 +2,11 @@ pub mod Shape
 pub mod Update
 pub mod Find
 pub mod Make
-pub mod Holds
+pub mod Represents
 pub mod Place
 pub mod Order
 pub mod Depth
 pub mod Adds
 pub mod Path
+pub mod Looking
 pub mod Changes

@@ -1,5 +1,4 @@
--- Making a path and making it seen: the Rust's `get_or_create`. "New records .. take the next free numbers". Assumes
--- nothing: these are definitions.
+-- Making a path and making it seen: the Rust's `get_or_create`. "New records .. take the next free numbers".
 use Prim.Native.Nat.{ℕ, zero, suc, _+_}
 use mathlib.Core.Bool.{cond}
 use mathlib.Core.List.{List, [], _∷_, _++_}
@@ -22,11 +21,8 @@ ensure s p k =
     (record { state = s ++ bare p k ∷ []; number = length s + 1 })
     (record { state = s; number = findIn s p k })
 
--- how many paths that adds
-unfoldable pub missing : List Node → ℕ → ℕ → ℕ
-missing s p k = cond (eqb (findIn s p k) 0) 1 0
-
--- the path made seen, and each path that it continues, up to the root; n is as many turns as that can take
+-- the path made seen, and each path that it continues, up to the root; n is as many turns as that can take (decision
+-- D35)
 unfoldable pub seenUp : ℕ → List Node → ℕ → List Node
 seenUp zero s r = s
 seenUp (suc n) s r = cond (eqb r 0) s (seenUp n (update s r field.seen 1) (nodeOf s r .parent))
@@ -37,4 +33,5 @@ makeSeen s r = seenUp r s r
 
 -- `get_or_create`
 unfoldable pub getOrCreate : List Node → ℕ → ℕ → Made
-getOrCreate s p k = record { state = makeSeen (ensure s p k .state) (ensure s p k .number); number = ensure s p k .number }
+getOrCreate s p k =
+    record { state = makeSeen (ensure s p k .state) (ensure s p k .number); number = ensure s p k .number }

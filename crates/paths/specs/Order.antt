@@ -1,4 +1,4 @@
--- What a shaped table's state has, and what question 2 asks of seen. Assumes nothing: these are definitions.
+-- What a shaped table's state has, and what question 2 asks of seen.
 use Prim.Native.Nat.{ℕ, _≤_, _<_}
 use mathlib.Core.Path.{_≡_}
 use mathlib.Core.List.{List}

@@ -1,28 +1,16 @@
 -- Records by their paths, and facts by what they say there, so that the facts of two tables can be held against each
--- other whatever their numbers. Assumes nothing: these are definitions.
+-- other whatever their numbers.
 use Prim.Native.Nat.{ℕ, _-_, _*_, _≤_}
 use mathlib.Core.Path.{_≡_}
-use mathlib.Core.Bool.{cond}
 use mathlib.Core.Logic.{_↔_}
 use mathlib.Core.List.{List, [], _∷_, _++_}
-use lib.Dec.{eqb}
 use lib.ListN.{length, getD}
 use Rattle.limits.specs.Limits.{wordBytes}
 use Rattle.facts.specs.State.{Node, nodeOf, paths}
-use Rattle.paths.specs.Find.{findIn}
 
 -- the path of the node with number r
 abbrev pub pathOf : List Node → ℕ → List ℕ
 pathOf s r = getD (paths s) (r - 1) []
-
--- the number of the node whose path is that of r with these keys at its end, looked up key by key; 0 for none
-unfoldable pub numberFrom : List Node → ℕ → List ℕ → ℕ
-numberFrom s r [] = r
-numberFrom s r (k ∷ ks) = cond (eqb (findIn s r k) 0) 0 (numberFrom s (findIn s r k) ks)
-
--- the number of the node with this path, from the root on; 0 for none
-abbrev pub numberAt : List Node → List ℕ → ℕ
-numberAt s path = numberFrom s 1 path
 
 -- "Facts are the seen records": one of them has this path, kind, count and name
 pub record FactAt (s : List Node) (path : List ℕ) (kind count name : ℕ) : Type 0 where

@@ -1,11 +1,11 @@
 -- The place of a key in a chain: "Children of one record form a chain through next, keys strictly rising, zero ending
--- the chain." It is where the Rust's
--- `get_mut` finds a key in `children` and `get_or_create` adds it. Assumes nothing: these are definitions.
+-- the chain." It is where the Rust's `get_mut` finds a key in `children` and `get_or_create` adds it.
 use Prim.Native.Nat.{ℕ, _≤_, _<_}
 use mathlib.Core.Path.{_≡_}
 use mathlib.Core.List.{List}
 use Rattle.facts.specs.Table.{keyOf, childOf, nextOf}
-use Rattle.facts.specs.Links.{Kid, First}
+use Rattle.facts.specs.Links.{Kid}
+use Rattle.facts.specs.Linked.{First}
 
 -- a walk of p's chain that looks for the key k may begin behind prev: 0, or a child of p with a lower key
 pub record Before (t : List ℕ) (u p k prev : ℕ) : Type 0 where

@@ -1,7 +1,6 @@
 -- A state with one field of one node changed, as the Rust stores into the `Info` that `get_mut` or `get_or_create`
--- gives. The fields are "key, parent, child,
--- next, seen, not-bool, blocked, kind, count, name, confidence"; those up to next never change by it. Assumes nothing:
--- these are definitions.
+-- gives. The fields are "key, parent, child, next, seen, not-bool, blocked, kind, count, name, confidence"; those up to
+-- next never change by it.
 use Prim.Native.Nat.{ℕ, zero, suc}
 use mathlib.Core.Bool.{cond}
 use mathlib.Core.List.{List}

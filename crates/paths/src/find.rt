@@ -2,10 +2,10 @@
 ghost use mathlib.Core.Path.{_≡_};
 ghost use Prim.Native.Nat.{_≤_};
 ghost use Rattle.facts.specs.Table.{parentOf};
-ghost use Rattle.facts.specs.Links.{Linked};
+ghost use Rattle.facts.specs.Linked.{Linked};
 ghost use Rattle.facts.specs.State.{nodes};
 ghost use Rattle.paths.specs.Find.{findIn, getMut};
-ghost use Rattle.paths.specs.Make.{missing};
+ghost use Rattle.paths.specs.Adds.{missing};
 ghost use Rattle.paths.specs.Shape.{Shaped};
 use crate::insert::find_at;
 use crate::insert::place;

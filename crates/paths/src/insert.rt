@@ -4,12 +4,12 @@ ghost use mathlib.Core.List.{[], _∷_, _++_};
 ghost use Prim.Native.Nat.{_+_, _≤_, _<_};
 ghost use Rattle.limits.specs.Limits.{recordsMax};
 ghost use Rattle.facts.specs.Table.{parentOf};
-ghost use Rattle.facts.specs.Links.{Linked};
+ghost use Rattle.facts.specs.Linked.{Linked};
 ghost use Rattle.facts.specs.State.{nodes, bare};
 ghost use Rattle.paths.specs.Shape.{Shaped};
 ghost use Rattle.paths.specs.Find.{findIn};
 ghost use Rattle.paths.specs.Place.{Before, Place};
-ghost use Rattle.paths.specs.Holds.{Holds};
+ghost use Rattle.paths.specs.Represents.{Represents};
 use crate::near::behind;
 use crate::near::start;
 use facts::field;
@@ -26,8 +26,8 @@ pub struct Spot {
 }
 
 // Where a key stands or goes among the children of parent, looked for behind one with a lower key, or from the first on
-// for 0. A record often stands in the chain right
-// behind the one before it: where it does, the walk counts on instead of waiting for the number that it loads.
+// for 0. A record often stands in the chain right behind the one before it: where it does, the walk counts on instead
+// of waiting for the number that it loads.
 fn place_behind(table: &[u32], used: u32, parent: u32, key: u32, after: u32) -> Spot
     requires { ⌜ Linked (now table) used ⌝ }
     requires { ⌜ (1 ≤ parent) × (parent ≤ used) ⌝ }
@@ -100,7 +100,8 @@ pub fn insert_at(
     requires { ⌜ findIn (nodes (now table) used) parent key ≡ 0 ⌝ }
     requires { ⌜ Place (now table) used parent key prev next ⌝ }
     ensures { λ r. ⌜ r ≡ used + 1 ⌝ }
-    ensures { λ _. ⌜ Holds (now (table .exit)) (used + 1) n (nodes (now (table .entry)) used ++ bare parent key ∷ []) ⌝ }
+    ensures { λ _. ⌜ Represents (now (table .exit)) (used + 1) n
+        (nodes (now (table .entry)) used ++ bare parent key ∷ []) ⌝ }
 {
     let new = used + 1;
     set_field(table, new, KEY, key);
@@ -120,7 +121,8 @@ pub fn insert_child(table: &mut [u32], n: u32, used: u32, parent: u32, key: u32)
     requires { ⌜ (1 ≤ parent) × (parent ≤ used) × (used < n) × (n ≤ recordsMax) ⌝ }
     requires { ⌜ findIn (nodes (now table) used) parent key ≡ 0 ⌝ }
     ensures { λ r. ⌜ r ≡ used + 1 ⌝ }
-    ensures { λ _. ⌜ Holds (now (table .exit)) (used + 1) n (nodes (now (table .entry)) used ++ bare parent key ∷ []) ⌝ }
+    ensures { λ _. ⌜ Represents (now (table .exit)) (used + 1) n
+        (nodes (now (table .entry)) used ++ bare parent key ∷ []) ⌝ }
 {
     let spot = place(table, used, parent, key, 0);
     insert_at(table, n, used, parent, key, spot.prev, spot.next)

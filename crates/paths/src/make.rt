@@ -6,7 +6,7 @@ ghost use Rattle.facts.specs.State.{nodes};
 ghost use Rattle.paths.specs.Shape.{Shaped};
 ghost use Rattle.paths.specs.Find.{findIn};
 ghost use Rattle.paths.specs.Make.{ensure, getOrCreate};
-ghost use Rattle.paths.specs.Holds.{Makes};
+ghost use Rattle.paths.specs.Represents.{Makes};
 ghost use Rattle.paths.specs.Place.{Before};
 use crate::Reached;
 use crate::insert::find_at;
@@ -15,8 +15,7 @@ use crate::insert::place;
 use crate::seen::make_seen;
 
 // The child of parent with that key, which is added, unseen, if it is not there. It is looked for behind prev, a child
-// with a lower key, or from the
-// first child on for 0.
+// with a lower key, or from the first child on for 0.
 pub fn ensure_after(
     table: &mut [u32],
     n: u32,
@@ -29,7 +28,8 @@ pub fn ensure_after(
     requires { ⌜ (1 ≤ parent) × (parent ≤ used) × (n ≤ recordsMax) ⌝ }
     requires { ⌜ (findIn (nodes (now table) used) parent key ≡ 0 → used < n) ⌝ }
     requires { ⌜ Before (now table) used parent key prev ⌝ }
-    ensures { λ m. ⌜ Makes used (ensure (nodes (now (table .entry)) used) parent key) (now (table .exit)) (m .used) n (m .number) ⌝ }
+    ensures { λ m. ⌜ Makes used (ensure (nodes (now (table .entry)) used) parent key)
+        (now (table .exit)) (m .used) n (m .number) ⌝ }
 {
     let spot = place(table, used, parent, key, prev);
     let last = spot.prev;
@@ -50,7 +50,8 @@ pub fn ensure_child(table: &mut [u32], n: u32, used: u32, parent: u32, key: u32)
     requires { ⌜ Shaped (now table) used n ⌝ }
     requires { ⌜ (1 ≤ parent) × (parent ≤ used) × (n ≤ recordsMax) ⌝ }
     requires { ⌜ (findIn (nodes (now table) used) parent key ≡ 0 → used < n) ⌝ }
-    ensures { λ m. ⌜ Makes used (ensure (nodes (now (table .entry)) used) parent key) (now (table .exit)) (m .used) n (m .number) ⌝ }
+    ensures { λ m. ⌜ Makes used (ensure (nodes (now (table .entry)) used) parent key)
+        (now (table .exit)) (m .used) n (m .number) ⌝ }
 {
     ensure_after(table, n, used, parent, key, 0)
 }
@@ -68,7 +69,8 @@ pub fn get_or_create_after(
     requires { ⌜ (1 ≤ parent) × (parent ≤ used) × (n ≤ recordsMax) ⌝ }
     requires { ⌜ (findIn (nodes (now table) used) parent key ≡ 0 → used < n) ⌝ }
     requires { ⌜ Before (now table) used parent key prev ⌝ }
-    ensures { λ m. ⌜ Makes used (getOrCreate (nodes (now (table .entry)) used) parent key) (now (table .exit)) (m .used) n (m .number) ⌝ }
+    ensures { λ m. ⌜ Makes used (getOrCreate (nodes (now (table .entry)) used) parent key)
+        (now (table .exit)) (m .used) n (m .number) ⌝ }
 {
     let made = ensure_after(table, n, used, parent, key, prev);
     let reached = made.used;
@@ -85,7 +87,8 @@ pub fn get_or_create(table: &mut [u32], n: u32, used: u32, parent: u32, key: u32
     requires { ⌜ Shaped (now table) used n ⌝ }
     requires { ⌜ (1 ≤ parent) × (parent ≤ used) × (n ≤ recordsMax) ⌝ }
     requires { ⌜ (findIn (nodes (now table) used) parent key ≡ 0 → used < n) ⌝ }
-    ensures { λ m. ⌜ Makes used (getOrCreate (nodes (now (table .entry)) used) parent key) (now (table .exit)) (m .used) n (m .number) ⌝ }
+    ensures { λ m. ⌜ Makes used (getOrCreate (nodes (now (table .entry)) used) parent key)
+        (now (table .exit)) (m .used) n (m .number) ⌝ }
 {
     get_or_create_after(table, n, used, parent, key, 0)
 }

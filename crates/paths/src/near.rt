@@ -2,7 +2,8 @@
 ghost use mathlib.Core.Path.{_≡_};
 ghost use Prim.Native.Nat.{_+_, _-_, _^_, _≤_, _<_};
 ghost use Rattle.facts.specs.Table.{childOf, nextOf};
-ghost use Rattle.facts.specs.Links.{Kid, Linked};
+ghost use Rattle.facts.specs.Links.{Kid};
+ghost use Rattle.facts.specs.Linked.{Linked};
 ghost use Rattle.paths.specs.Place.{Before};
 use crate::Nearest;
 use facts::field;
@@ -26,7 +27,8 @@ pub fn behind(table: &[u32], used: u32, parent: u32, prev: u32) -> u32
     requires { ⌜ Linked (now table) used ⌝ }
     requires { ⌜ (1 ≤ parent) × (parent ≤ used) ⌝ }
     requires { ⌜ ((prev ≡ 0 → ⊥) → Kid (now table) used parent prev) ⌝ }
-    ensures { λ c. ⌜ (prev ≡ 0 → c ≡ childOf (now (table .entry)) parent) × ((prev ≡ 0 → ⊥) → c ≡ nextOf (now (table .entry)) prev) ⌝ }
+    ensures { λ c. ⌜ (prev ≡ 0 → c ≡ childOf (now (table .entry)) parent)
+        × ((prev ≡ 0 → ⊥) → c ≡ nextOf (now (table .entry)) prev) ⌝ }
 {
     if prev == 0 {
         return field(table, parent, CHILD);
@@ -35,8 +37,7 @@ pub fn behind(table: &[u32], used: u32, parent: u32, prev: u32) -> u32
 }
 
 // The record r, if it is a child of parent and its key is neither too low nor as high as the one that is looked for;
-// the one before else. One test asks both of the key: in no order
-// a test of one end would come out either way.
+// the one before else. One test asks both of the key: in no order a test of one end would come out either way.
 fn nearer(table: &[u32], used: u32, parent: u32, key: u32, near: Nearest, r: u32) -> Nearest
     requires { ⌜ Linked (now table) used ⌝ }
     requires { ⌜ (1 < r) × (r ≤ used) ⌝ }

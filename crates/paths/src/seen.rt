@@ -3,7 +3,7 @@ ghost use Prim.Native.Nat.{_≤_};
 ghost use Rattle.facts.specs.State.{nodes};
 ghost use Rattle.paths.specs.Shape.{Shaped};
 ghost use Rattle.paths.specs.Make.{makeSeen};
-ghost use Rattle.paths.specs.Holds.{Holds};
+ghost use Rattle.paths.specs.Represents.{Represents};
 use crate::node::store;
 use facts::field;
 use limits::fields::PARENT;
@@ -13,7 +13,7 @@ use limits::fields::SEEN;
 pub fn make_seen(table: &mut [u32], n: u32, used: u32, r: u32)
     requires { ⌜ Shaped (now table) used n ⌝ }
     requires { ⌜ (1 ≤ r) × (r ≤ used) ⌝ }
-    ensures { λ _. ⌜ Holds (now (table .exit)) used n (makeSeen (nodes (now (table .entry)) used) r) ⌝ }
+    ensures { λ _. ⌜ Represents (now (table .exit)) used n (makeSeen (nodes (now (table .entry)) used) r) ⌝ }
 {
     let mut c = r;
     while c != 0 {

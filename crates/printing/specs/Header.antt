@@ -1,5 +1,4 @@
--- "packed flag, packed word (eight numbers, present at flag 0 too)": what the header says of a packed word. Assumes
--- nothing: these are definitions.
+-- "packed flag, packed word (eight numbers, present at flag 0 too)": what the header says of a packed word.
 use Prim.Native.Nat.{ℕ}
 use mathlib.Core.Bool.{cond}
 use mathlib.Core.List.{List}

@@ -1,6 +1,6 @@
 // One trace of the trace printer, from its bytes to its lines: header, code, then group by group while the steps are
-// taken, and the closing. A group is read whole
-// before its step is put. What is held is one group and the table, whatever the number of steps.
+// taken, and the closing. A group is read whole before its step is put. What is held is one group and the table,
+// whatever the number of steps.
 mod answer;
 mod group;
 mod run;

@@ -91,7 +91,7 @@ fn finish(walk: Walk, table: &mut [u32], code: &[u8], start: u32, packed: Packed
 
 fn run_steps(source: Source, code: &[u8], count: u32, start: u32, packed: Packed) -> Source {
     let mut table = [0u32; TRACE_NUMBERS];
-    let opened = fresh::fresh(Head { used: 0, active: 0 }, &mut table);
+    let opened = head::fresh(Head { used: 0, active: 0 }, &mut table);
     let head = opened.head;
     let mut group = [0u8; GROUP_ROOM];
     let walk = take_steps(source, head, &mut table, code, &mut group, count);

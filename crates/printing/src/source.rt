@@ -1,12 +1,10 @@
 // Where the bytes of a trace come from: standard input as it stands, or a part of it in which zeros are counted. The
-// trace printer reads the one, the
-// replay of many traces the other, by the same code from here on.
+// trace printer reads the one, the replay of many traces the other, by the same code from here on.
 ghost use Prim.Native.Nat.{_<_};
 use libc::STDIN_FILENO;
 
 // `left` bytes of the trace are to come: `zeros` zeros, then `given` bytes as they stand, then further runs. A run is
-// how many zeros, how many bytes (a byte each),
-// and these bytes.
+// how many zeros, how many bytes (a byte each), and these bytes.
 pub struct Runs {
     pub left: u32,
     pub zeros: u32,

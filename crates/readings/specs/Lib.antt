@@ -1,4 +1,3 @@
 pub mod Steps
-pub mod Facts
 pub mod Said
 pub mod Table

@@ -1,4 +1,4 @@
--- What a bench reading says, and what the definitions say in the same words. Assumes nothing: these are definitions.
+-- What a bench reading says, and what the definitions say in the same words.
 use Prim.Native.Nat.{ℕ, _-_}
 use mathlib.Core.Bool.{cond}
 use mathlib.Core.List.{List, [], _∷_}
@@ -21,7 +21,7 @@ pub data Said : Type 0 where
   -- the name that a mask gives, `noName` for none
   name : ℕ → Said
   -- how many paths there are beside the root, seen ones (the facts) or not
-  facts : ℕ → Said
+  paths : ℕ → Said
   -- the kind of record 2
   kind : ℕ → Said
   -- how many types the list has, where one is granted
@@ -55,16 +55,17 @@ unfoldable pub firstRefusal : Known → List Call → ℕ
 firstRefusal k [] = 0
 firstRefusal k (c ∷ cs) = cond (eqb (refusalOf k c) 0) (firstRefusal (after records k c) cs) (refusalOf k c)
 
--- what is asked of the facts after calls to a fresh table, all of which have to be taken
+-- what is asked of the state after calls to a fresh table, all of which have to be taken
 abbrev pub trace : List Call → (List Node → Said) → Said
-trace cs ask = cond (eqb (firstRefusal start cs) 0) (ask (known records cs .facts)) (answer (refused (firstRefusal start cs)))
+trace cs ask =
+    cond (eqb (firstRefusal start cs) 0) (ask (known records cs .state)) (answer (refused (firstRefusal start cs)))
 
--- the closing's answer for the facts s
+-- the closing's answer for the state s
 abbrev pub verdict : List Node → Verdict
 verdict s = answerBy (firstNo (closingTests records s emptyCode types)) (filled s emptyCode)
 
-abbrev pub factsIn : List Node → Said
-factsIn s = facts (length s - 1)
+abbrev pub pathsIn : List Node → Said
+pathsIn s = paths (length s - 1)
 
 abbrev pub kindIn : List Node → Said
 kindIn s = kind (nodeOf s 2 .kind)

@@ -6,7 +6,7 @@ ghost use Rattle.trace.specs.Lines.{listRoom};
 ghost use Rattle.head.specs.Held.{held};
 ghost use Rattle.closing.specs.Words.{hand};
 ghost use Rattle.closing.specs.Answer.{verdictOf};
-ghost use Rattle.report.specs.Answer.{Reported, Printed};
+ghost use Rattle.report.specs.Closed.{Reported, Printed};
 use closing::Closing;
 use closing::Packed;
 use closing::close;

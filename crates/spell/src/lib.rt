@@ -1,12 +1,13 @@
-// The text of a name, stored in a slice. Nothing here knows of arrays or tuples.
+// The text of a name, and a number in decimal, stored in a slice. Nothing here knows of arrays or tuples.
 ghost use mathlib.Core.Path.{_≡_};
 ghost use mathlib.Core.Bool.{true};
 ghost use mathlib.Core.List.{_++_};
-ghost use Prim.Native.Nat.{_+_, _<_, _≤_};
+ghost use Prim.Native.Nat.{_+_, _≤_};
 ghost use lib.ListN.{length};
-ghost use lib.Seq.{sets};
+ghost use Rattle.names.specs.Decimal.{decimal};
 ghost use Rattle.names.specs.Elementary.{isName, ofCode};
-ghost use Rattle.names.specs.Text.{decimal, nameText};
+ghost use Rattle.names.specs.Text.{nameText};
+ghost use Rattle.spell.specs.Stored.{StoredAt};
 use limits::codes::ADDRESS;
 use limits::codes::BOOL;
 use limits::codes::BYTES;
@@ -18,7 +19,7 @@ use limits::codes::UINT;
 // Stores the bytes of s from an index on, and answers the index behind them.
 pub fn put_bytes(out: &mut [u8], to: usize, s: &[u8]) -> usize
     requires { ⌜ to + length (now s) ≤ length (now out) ⌝ }
-    ensures { λ r. ⌜ (now (out .exit) ≡ sets (now (out .entry)) to (now (s .entry))) × (r ≡ to + length (now (s .entry))) ⌝ }
+    ensures { λ r. ⌜ StoredAt (now (s .entry)) (now (out .entry)) to r (now (out .exit)) ⌝ }
 {
     let mut i = 0;
     while i < s.len() {
@@ -28,36 +29,27 @@ pub fn put_bytes(out: &mut [u8], to: usize, s: &[u8]) -> usize
     to + i
 }
 
-// A number below 1,000 in decimal.
-fn put_decimal(out: &mut [u8], to: usize, n: u32) -> usize
-    requires { ⌜ (n < 1000) × (to + length (decimal n) ≤ length (now out)) ⌝ }
-    ensures { λ r. ⌜ (now (out .exit) ≡ sets (now (out .entry)) to (decimal n)) × (r ≡ to + length (decimal n)) ⌝ }
+// A number in decimal: the last digit behind those of a tenth.
+pub fn put_decimal(out: &mut [u8], to: usize, n: u32) -> usize
+    requires { ⌜ to + length (decimal n) ≤ length (now out) ⌝ }
+    ensures { λ r. ⌜ StoredAt (decimal n) (now (out .entry)) to r (now (out .exit)) ⌝ }
 {
     if n < 10 {
         out[to] = (48 + n) as u8;
         return to + 1;
     }
-    if n < 100 {
-        out[to] = (48 + n / 10) as u8;
-        out[to + 1] = (48 + n % 10) as u8;
-        return to + 2;
-    }
-    out[to] = (48 + n / 100) as u8;
-    out[to + 1] = (48 + n / 10 % 10) as u8;
-    out[to + 2] = (48 + n % 10) as u8;
-    to + 3
+    let at = put_decimal(out, to, n / 10);
+    out[at] = (48 + n % 10) as u8;
+    at + 1
 }
 
 fn decimal_length(n: u32) -> usize
-    ensures { λ r. ⌜ (r ≡ length (decimal n)) × (r ≤ 3) ⌝ }
+    ensures { λ r. ⌜ (r ≡ length (decimal n)) × (r ≤ 10) ⌝ }
 {
     if n < 10 {
         return 1;
     }
-    if n < 100 {
-        return 2;
-    }
-    3
+    decimal_length(n / 10) + 1
 }
 
 // How many bytes the text of a name has.
@@ -88,8 +80,8 @@ pub fn name_length(code: u32) -> usize
 
 // Stores a word and a width behind it, and answers the index behind them.
 fn put_sized(out: &mut [u8], to: usize, word: &[u8], n: u32) -> usize
-    requires { ⌜ (n < 1000) × (to + length (now word) + length (decimal n) ≤ length (now out)) ⌝ }
-    ensures { λ r. ⌜ (now (out .exit) ≡ sets (now (out .entry)) to (now (word .entry) ++ decimal n)) × (r ≡ to + length (now (word .entry)) + length (decimal n)) ⌝ }
+    requires { ⌜ to + length (now word) + length (decimal n) ≤ length (now out) ⌝ }
+    ensures { λ r. ⌜ StoredAt (now (word .entry) ++ decimal n) (now (out .entry)) to r (now (out .exit)) ⌝ }
 {
     let at = put_bytes(out, to, word);
     put_decimal(out, at, n)
@@ -98,7 +90,7 @@ fn put_sized(out: &mut [u8], to: usize, word: &[u8], n: u32) -> usize
 // Stores the text of a name from an index on, and answers the index behind it.
 pub fn put_name(out: &mut [u8], to: usize, code: u32) -> usize
     requires { ⌜ (isName code ≡ true) × (to + length (nameText (ofCode code)) ≤ length (now out)) ⌝ }
-    ensures { λ r. ⌜ (now (out .exit) ≡ sets (now (out .entry)) to (nameText (ofCode code))) × (r ≡ to + length (nameText (ofCode code))) ⌝ }
+    ensures { λ r. ⌜ StoredAt (nameText (ofCode code)) (now (out .entry)) to r (now (out .exit)) ⌝ }
 {
     if code == BOOL {
         return put_bytes(out, to, b"bool");

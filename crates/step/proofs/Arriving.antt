@@ -1,17 +1,16 @@
 -- A step that is refused leaves everything, and one that question 1 or 2 refuses is so whatever else it is handed.
--- Assumes nothing.
 use Prim.Native.Nat.{ℕ}
 use mathlib.Core.Path.{_≡_, sym, ap, subst}
 use mathlib.Core.Bool.{Bool, false, cond}
 use mathlib.Core.List.{List}
 use lib.Dec.{eqb}
-use Rattle.limits.specs.Questions.{taken}
+use Rattle.limits.specs.Refusal.{taken, numberOf}
 use Rattle.limits.specs.declared.refusal.Refusal.{Refusal}
-use Rattle.limits.specs.Refusal.{numberOf}
 use Rattle.limits.proofs.Refusals.{not-taken}
 use Rattle.head.specs.declared.Admitted.{Admitted}
 use Rattle.head.specs.declared.Admitted.the-variants.{Refused}
-use Rattle.head.specs.Asked.{firstNo, FirstNo, Admits, AdmittedBy}
+use Rattle.head.specs.Asked.{firstNo, FirstNo}
+use Rattle.head.specs.Admitting.{Admits, AdmittedBy}
 use Rattle.head.proofs.Asking.{sound-asked, refused-so}
 use Rattle.step.specs.declared.Planned.{Planned}
 use Rattle.step.specs.declared.Decision.{Decision}

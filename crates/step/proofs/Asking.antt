@@ -1,4 +1,4 @@
--- What the code's tests for questions 3 to 7 answer is what the definitions say. Assumes nothing.
+-- What the code's tests for questions 3 to 7 answer is what the definitions say.
 use Prim.Native.Nat.{ℕ, _+_, _/_, _%_, _^_}
 use mathlib.Core.Path.{_≡_, refl, ap, _∙_}
 use mathlib.Core.Bool.{Bool, true, not, _&&_, _||_}
@@ -7,7 +7,8 @@ use lib.Dec.{eqb, leb, ltb}
 use lib.ListN.{length, getD}
 use borrow.Author.Tests.{eq-eqb, ne-eqb}
 use Rattle.limits.specs.Limits.{slotsMax, entriesMax}
-use Rattle.limits.specs.Layout.{slotWidth, slotLabel, entryWidth, stepWidth, stepOp, stepFirst, stepSecond, stepPick, stepLoadFlag, stepLoad}
+use Rattle.limits.specs.Layout.{slotWidth, slotLabel, entryWidth, stepWidth, stepOp, stepFirst, stepSecond, stepPick}
+use Rattle.limits.specs.Layout.{stepLoadFlag, stepLoad}
 use Rattle.word.specs.Numbers.{wordAt}
 use Rattle.opcode.specs.Opcode.{CALLDATACOPY}
 use Rattle.opcode.specs.Lists.{listed, slotNeeders}

@@ -1,5 +1,4 @@
--- A label that is well formed names a used record, and so do those of a step that has passed question 5. Assumes
--- nothing.
+-- A label that is well formed names a used record, and so do those of a step that has passed question 5.
 use Prim.Native.Nat.{ℕ, _+_, _≤_, _<_}
 use mathlib.Core.Path.{_≡_, refl, sym, ap, _∙_}
 use mathlib.Core.Bool.{Bool, true, false, cond, _&&_, and-eq-true-iff}
@@ -10,7 +9,8 @@ use lib.ListN.{getD}
 use borrow.Author.Tests.{lt-leb, leb-true, eqb-true}
 use Rattle.zeros.specs.Zeros.{zeros}
 use Rattle.limits.specs.Between.{between}
-use Rattle.limits.specs.Layout.{labelOffset, labelPath, labelCallData, labelArgument, labelZeroTest, slotLabel, stepFirst, stepSecond, stepLoad}
+use Rattle.limits.specs.Layout.{labelOffset, labelPath, labelCallData, labelArgument, labelZeroTest, slotLabel}
+use Rattle.limits.specs.Layout.{stepFirst, stepSecond, stepLoad}
 use Rattle.labels.specs.declared.Val.{Val}
 use Rattle.labels.specs.declared.Label.the-variants.{Unlabelled, CallData, Arg, IsZeroResult}
 use Rattle.labels.specs.Label.{valAt, labelOf, labelAt}

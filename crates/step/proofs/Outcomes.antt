@@ -1,11 +1,10 @@
--- `one-outcome`: the step call has one outcome for one input: its number, its head and the lent tables. Assumes
--- nothing.
+-- `one-outcome`: the step call has one outcome for one input: its number, its head and the lent tables.
 use Prim.Native.Nat.{ℕ}
 use mathlib.Core.Path.{_≡_, sym, ap, _∙_}
 use mathlib.Core.Bool.{cond}
 use mathlib.Core.List.{List}
 use lib.Dec.{eqb}
-use Rattle.limits.specs.Questions.{taken}
+use Rattle.limits.specs.Refusal.{taken}
 use Rattle.head.proofs.Asking.{one-no}
 use Rattle.step.specs.Call.{Lent, effect, questions, Outcome}
 

@@ -1,4 +1,4 @@
--- A step that has passed questions 1 to 7: what its plan asks for, and question 8. Assumes nothing.
+-- A step that has passed questions 1 to 7: what its plan asks for, and question 8.
 use Prim.Native.Nat.{ℕ, _≤_}
 use mathlib.Core.Path.{_≡_, refl, sym, ap, subst, _∙_}
 use mathlib.Core.Bool.{Bool, true, false, cond, not, _&&_}
@@ -42,8 +42,8 @@ module _ (N : ℕ) (head : Head) (table stack memory bytes x : List ℕ) (P : Pa
   abbrev active : Bool
   active = isActive l
 
-  abbrev facts : List Node
-  facts = nodes table (head .used)
+  abbrev state : List Node
+  state = nodes table (head .used)
 
   pub read-asks : (length x ≡ stepWidth) × (getD x stepOp 0 ≤ 255)
   read-asks = (fit-width stack memory x (P .sizes), fit-op memory x (P .fields))
@@ -54,28 +54,28 @@ module _ (N : ℕ) (head : Head) (table stack memory bytes x : List ℕ) (P : Pa
     small = admitted-count (held head table) N (P .admitted) .most;
   }
 
-  pub passed-ordered : Ordered facts
+  pub passed-ordered : Ordered state
   passed-ordered = shaped-ordered table (head .used) N (passed-ready .shaped)
 
   pub passed-reaches : StepReaches (head .used) (stepOf x)
   passed-reaches = step-reaches (head .used) stack memory x (P .labels)
 
   -- so many facts as used records
-  pub facts-reach : StepReaches (length facts) (stepOf x)
+  pub facts-reach : StepReaches (length state) (stepOf x)
   facts-reach = subst (λ (u : ℕ). StepReaches u (stepOf x)) (sym (length-nodes table (head .used))) passed-reaches
 
-  pub passed-plan : PlanReaches (head .used) (planOf facts active bytes (stepOf x))
+  pub passed-plan : PlanReaches (head .used) (planOf state active bytes (stepOf x))
   passed-plan =
-      subst (λ (u : ℕ). PlanReaches u (planOf facts active bytes (stepOf x))) (length-nodes table (head .used))
-      (plan-reaches facts passed-ordered (stepOf x) facts-reach active bytes)
+      subst (λ (u : ℕ). PlanReaches u (planOf state active bytes (stepOf x))) (length-nodes table (head .used))
+      (plan-reaches state passed-ordered (stepOf x) facts-reach active bytes)
 
   module _ (s : Step) (es : s ≡ stepOf x) where
     pub plan-asks : Ready table (head .used) N × StepReaches (head .used) s
     plan-asks = (passed-ready, subst (λ (z : Step). StepReaches (head .used) z) (sym es) passed-reaches)
 
-    module _ (p : Plan) (ep : p ≡ planOf facts active bytes s) where
-      plan-is : p ≡ planOf facts active bytes (stepOf x)
-      plan-is = ep ∙ ap (planOf facts active bytes) es
+    module _ (p : Plan) (ep : p ≡ planOf state active bytes s) where
+      plan-is : p ≡ planOf state active bytes (stepOf x)
+      plan-is = ep ∙ ap (planOf state active bytes) es
 
       pub room-asks : Shaped table (head .used) N
           × (Reaches (head .used) (p .first) × Reaches (head .used) (p .second) × Reaches (head .used) (p .third))
@@ -83,11 +83,11 @@ module _ (N : ℕ) (head : Head) (table stack memory bytes x : List ℕ) (P : Pa
           let R = subst (PlanReaches (head .used)) (sym plan-is) passed-plan in
           (passed-ready .shaped, (R .first, R .second, R .third))
 
-      module _ (b : Bool) (room : b ≡ leb (length (runAll facts (operations p))) N) where
+      module _ (b : Bool) (room : b ≡ leb (length (runAll state (operations p))) N) where
         room-is : b ≡ roomThere (recordsIn (held head table)) (machineOf l) active bytes x
         unfolding roomThere
         room-is =
-            room ∙ (λ i. leb (length (runAll facts (operations (plan-is i)))) (P .admitted .is i))
+            room ∙ (λ i. leb (length (runAll state (operations (plan-is i)))) (P .admitted .is i))
             ∙ ap (λ (n : ℕ). leb n (recordsIn (held head table)))
             (sym (analyze-room (machineOf l) active bytes (stepOf x) passed-ordered facts-reach))
 

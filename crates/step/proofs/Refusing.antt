@@ -1,5 +1,5 @@
 -- Questions 3 to 7: each test that fails gives its number and leaves everything, and a step that passes them all has
--- passed. Assumes nothing.
+-- passed.
 use Prim.Native.Nat.{ℕ, _/_, _≤_, _<_}
 use mathlib.Core.Path.{_≡_, refl, sym, _∙_}
 use mathlib.Core.Bool.{Bool, true, false, not, _&&_, and-eq-true-iff}
@@ -13,8 +13,10 @@ use Rattle.word.specs.Numbers.{wordAt}
 use Rattle.facts.proofs.Encode.{length-nodes}
 use Rattle.head.specs.declared.Head.{Head}
 use Rattle.head.specs.Held.{held}
-use Rattle.head.specs.Asked.{Admits}
-use Rattle.step.specs.Questions.{areWhole, codeFits, sizesFit, labelsFit, loadFits, copyFits, fieldsFit, slotThere, stepTests}
+use Rattle.head.specs.Admitting.{Admits}
+use Rattle.head.specs.Asked.{codeFits}
+use Rattle.step.specs.Questions.{areWhole, sizesFit, labelsFit, loadFits, copyFits, fieldsFit, slotThere}
+use Rattle.step.specs.Questions.{stepTests}
 use Rattle.step.specs.Call.{Lent, lend, Outcome}
 use Rattle.step.specs.Decide.{Passed}
 use Rattle.step.proofs.Arriving.{refused-by}

@@ -1,5 +1,4 @@
--- A step that was accepted: what its run and its writing ask for, and that its effect is that of `analyze`. Assumes
--- nothing.
+-- A step that was accepted: what its run and its writing ask for, and that its effect is that of `analyze`.
 use Prim.Native.Nat.{ℕ, _*_, _≤_}
 use mathlib.Core.Path.{_≡_, refl, sym, ap, subst, _∙_}
 use mathlib.Core.Bool.{Bool, true, false, cond, not, _&&_, _||_}
@@ -12,7 +11,7 @@ use borrow.Author.Tests.{leb-true}
 use Rattle.limits.specs.Layout.{slotWidth, entryWidth, stepOp, stepPick}
 use Rattle.facts.specs.State.{Node, nodes, encode}
 use Rattle.facts.proofs.Encode.{length-nodes}
-use Rattle.paths.specs.Holds.{Holds}
+use Rattle.paths.specs.Represents.{Represents}
 use Rattle.paths.proofs.Frame.{shaped-encode}
 use Rattle.opcode.specs.Lists.{listed, slotNeeders}
 use Rattle.labels.specs.declared.Step.{Step}
@@ -79,23 +78,23 @@ module _ (N : ℕ) (head : Head) (table stack memory bytes x : List ℕ) (p : Pl
   abbrev active : Bool
   active = isActive l
 
-  abbrev facts : List Node
-  facts = nodes table (head .used)
+  abbrev state : List Node
+  state = nodes table (head .used)
 
   abbrev after : Machine
   after = analyze (machineOf l) active bytes (stepOf x)
 
   -- the facts after the hints, which no decision looks at
   abbrev cleared : List Node
-  cleared = hinted facts active (stepOf x)
+  cleared = hinted state active (stepOf x)
 
-  cleared-is : runAll facts (hintOperations (p .hints)) ≡ cleared
-  cleared-is = ap (λ (h : Hints). runAll facts (hintOperations h)) (A .hints)
+  cleared-is : runAll state (hintOperations (p .hints)) ≡ cleared
+  cleared-is = ap (λ (h : Hints). runAll state (hintOperations h)) (A .hints)
 
-  cleared-size : length (runAll facts (hintOperations (p .hints))) ≡ head .used
-  cleared-size = ap (λ (s : List Node). length s) cleared-is ∙ hinted-size facts active (stepOf x) ∙ length-nodes table (head .used)
+  cleared-size : length (runAll state (hintOperations (p .hints))) ≡ head .used
+  cleared-size = ap (λ (s : List Node). length s) cleared-is ∙ hinted-size state active (stepOf x) ∙ length-nodes table (head .used)
 
-  pub hints-asks : (Ready table (head .used) N × HintsReach (head .used) (p .hints)) × (length (runAll facts (hintOperations (p .hints))) ≤ N)
+  pub hints-asks : (Ready table (head .used) N × HintsReach (head .used) (p .hints)) × (length (runAll state (hintOperations (p .hints))) ≤ N)
   hints-asks =
       let R = passed-ready N head table stack memory bytes x (A .passed) in (
         (
@@ -106,15 +105,15 @@ module _ (N : ℕ) (head : Head) (table stack memory bytes x : List ℕ) (p : Pl
         let m = R .shaped .most in let e = cleared-size in omega arith,
       )
 
-  facts-after : after .facts ≡ runAll cleared (operations (p .plan))
+  facts-after : after .state ≡ runAll cleared (operations (p .plan))
   facts-after = analyze-facts (machineOf l) active bytes (stepOf x) ∙ ap (λ (q : Plan). runAll cleared (operations q)) (sym (A .plan))
 
-  fits-after : length (after .facts) ≤ N
+  fits-after : length (after .state) ≤ N
   unfolding roomThere
-  fits-after = let h = leb-true (length (after .facts)) (recordsIn (held head table)) (A .room) in let e = A .passed .admitted .is in omega arith
+  fits-after = let h = leb-true (length (after .state)) (recordsIn (held head table)) (A .room) in let e = A .passed .admitted .is in omega arith
 
   -- the hints cleared
-  module _ (table₁ : List ℕ) (used₁ : ℕ) (H : Holds table₁ used₁ N (runAll facts (hintOperations (p .hints)))) where
+  module _ (table₁ : List ℕ) (used₁ : ℕ) (H : Represents table₁ used₁ N (runAll state (hintOperations (p .hints)))) where
     used-same : used₁ ≡ head .used
     used-same = sym (length-nodes table₁ used₁) ∙ ap (λ (s : List Node). length s) (H .state) ∙ cleared-size
 
@@ -140,12 +139,12 @@ module _ (N : ℕ) (head : Head) (table stack memory bytes x : List ℕ) (p : Pl
         ⊎-elim (λ k. subst (λ (w : OnStack). StackFits w stack) (sym (ap (λ (q : Plan). q .stack) (A .plan) ∙ k)) tt)
         (λ n. stack-fits (p .plan .stack) stack
         (slot-needed stack (getD x stepOp 0) (A .passed .slot) (ap (λ (o : ℕ). listed o slotNeeders) (sym (op-is x)) ∙ n)))
-        (plan-stack facts (passed-ordered N head table stack memory bytes x (A .passed)) (stepOf x)
+        (plan-stack state (passed-ordered N head table stack memory bytes x (A .passed)) (stepOf x)
         (facts-reach N head table stack memory bytes x (A .passed)) active bytes)
 
     pub memory-asks : MemoryFits (p .plan .memory) memory
     memory-asks =
-        let k = plan-picks facts (passed-ordered N head table stack memory bytes x (A .passed)) (stepOf x)
+        let k = plan-picks state (passed-ordered N head table stack memory bytes x (A .passed)) (stepOf x)
         (facts-reach N head table stack memory bytes x (A .passed)) active bytes in
         let h = fit-pick memory x (A .passed .fields) in
         let e = pick-is x in
@@ -159,9 +158,9 @@ module _ (N : ℕ) (head : Head) (table stack memory bytes x : List ℕ) (p : Pl
       -- what the plan leaves is what `analyze` does
       left-is : left ≡ after
       unfolding analyze
-      left-is = ap (λ (q : Plan). runPlan cleared q stack memory) (A .plan ∙ sym (hinted-plan facts active bytes (stepOf x)))
+      left-is = ap (λ (q : Plan). runPlan cleared q stack memory) (A .plan ∙ sym (hinted-plan state active bytes (stepOf x)))
 
-      facts-left : nodes table₂ (r .used) ≡ left .facts
+      facts-left : nodes table₂ (r .used) ≡ left .state
       unfolding runPlan
       facts-left = Q .holds .state ∙ ap (λ (s : List Node). runAll s (operations (p .plan))) state-is
 
@@ -192,16 +191,16 @@ module _ (N : ℕ) (head : Head) (table stack memory bytes x : List ℕ) (p : Pl
           memory = (memory-left ∙ ap (λ (m : Machine). m .memory) left-is) i;
         }
           where
-            f : nodes table₂ (r .used) ≡ after .facts
-            f = facts-left ∙ ap (λ (m : Machine). m .facts) left-is
+            f : nodes table₂ (r .used) ≡ after .state
+            f = facts-left ∙ ap (λ (m : Machine). m .state) left-is
 
-            u : r .used ≡ length (after .facts)
+            u : r .used ≡ length (after .state)
             u = sym (length-nodes table₂ (r .used)) ∙ ap (λ (s : List Node). length s) f
 
             a : active′ ≡ cond (activeAfter active (stepOf x)) 1 0
             a = ea ∙ ap (λ (b : Bool). cond b 1 0) (A .active)
 
-            t : table₂ ≡ encode (recordsIn (held head table)) (after .facts)
+            t : table₂ ≡ encode (recordsIn (held head table)) (after .state)
             t = shaped-encode table₂ (r .used) N (Q .holds .shaped) ∙ (λ i. encode (A .passed .admitted .is i) (f i))
 
         pub taken : Outcome l bytes x 0 l′

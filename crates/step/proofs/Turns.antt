@@ -1,4 +1,4 @@
--- Operations run in turn on a table: what the next one asks for, and what all of them come to. Assumes nothing.
+-- Operations run in turn on a table: what the next one asks for, and what all of them come to.
 use Prim.Native.Nat.{ℕ, _≤_}
 use mathlib.Core.Path.{_≡_, refl, sym, ap, subst, _∙_}
 use mathlib.Core.Bool.{Bool, false, not, _&&_}
@@ -17,11 +17,12 @@ use Rattle.facts.proofs.Encode.{nodes-get, length-nodes}
 use Rattle.paths.specs.declared.Reached.{Reached}
 use Rattle.paths.specs.Shape.{Shaped}
 use Rattle.paths.specs.Make.{ensure}
-use Rattle.paths.specs.Holds.{Holds}
+use Rattle.paths.specs.Represents.{Represents}
 use Rattle.paths.proofs.Reach.{ensure-range}
 use Rattle.kinds.proofs.Counts.{length-set-dynamic}
 use Rattle.operations.specs.declared.Operation.{Operation}
-use Rattle.operations.specs.declared.Operation.the-variants.{Nothing, ClearRangeHint, ClearRangeHints, MarkNotBool, InsertNotBool, GetOrCreate, SetTname, SetDynamic, SetArray}
+use Rattle.operations.specs.declared.Operation.the-variants.{Nothing, ClearRangeHint, ClearRangeHints, MarkNotBool}
+use Rattle.operations.specs.declared.Operation.the-variants.{InsertNotBool, GetOrCreate, SetTname, SetDynamic, SetArray}
 use Rattle.operations.specs.Run.{run, runAll}
 use Rattle.operations.specs.Asks.{IsUsed, Reaches}
 use Rattle.operations.proofs.Operation.{the-type}
@@ -56,7 +57,7 @@ module _ (t : List ℕ) (u n : ℕ) (o : Operation) (os : List Operation) (T : T
   pub first-asks : (Ready t u n × Reaches u o) × (length (run (nodes t u) o) ≤ n)
   first-asks = ((T .ready, T .reach .0), first-fits t u n o os (T .reach) (T .fits))
 
-  module _ (t′ : List ℕ) (u′ : ℕ) (H : Holds t′ u′ n (run (nodes t u) o)) where
+  module _ (t′ : List ℕ) (u′ : ℕ) (H : Represents t′ u′ n (run (nodes t u) o)) where
     pub turn-next : Turn t′ u′ n os
     turn-next = record {
       ready = record { shaped = H .shaped; small = T .ready .small };
@@ -67,11 +68,11 @@ module _ (t : List ℕ) (u n : ℕ) (o : Operation) (os : List Operation) (T : T
     pub turn-grows : u ≤ u′
     turn-grows = first-grows t u n o os (T .reach) t′ u′ H
 
-    pub turn-done : (t″ : List ℕ) (r : ℕ) → Holds t″ r n (runAll (nodes t′ u′) os) → Holds t″ r n (runAll (nodes t u) (o ∷ os))
+    pub turn-done : (t″ : List ℕ) (r : ℕ) → Represents t″ r n (runAll (nodes t′ u′) os) → Represents t″ r n (runAll (nodes t u) (o ∷ os))
     turn-done t″ r K = rest-done t u n o os (T .reach) t′ u′ H t″ r K
 
 -- the last one
-pub last-done : (t t′ : List ℕ) (u r n : ℕ) (o : Operation) → Holds t′ r n (run (nodes t u) o) → Holds t′ r n (runAll (nodes t u) (o ∷ []))
+pub last-done : (t t′ : List ℕ) (u r n : ℕ) (o : Operation) → Represents t′ r n (run (nodes t u) o) → Represents t′ r n (runAll (nodes t u) (o ∷ []))
 unfolding runAll
 last-done t t′ u r n o H = H
 
@@ -97,11 +98,11 @@ not-dynamic s (SetDynamic p k count) h =
     h)
 
 module _ (t : List ℕ) (u n : ℕ) (o : Operation) (t′ : List ℕ) where
-  pub ran-other : (r : ℕ) → OneOf (0 ∷ 1 ∷ 2 ∷ 3 ∷ 4 ∷ 5 ∷ 6 ∷ 8 ∷ []) (tagOf the-type o) → Holds t′ r n (run (nodes t u) o)
+  pub ran-other : (r : ℕ) → OneOf (0 ∷ 1 ∷ 2 ∷ 3 ∷ 4 ∷ 5 ∷ 6 ∷ 8 ∷ []) (tagOf the-type o) → Represents t′ r n (run (nodes t u) o)
       → RanFirst (nodes t u) o t′ (record { used = r; number = 0 }) n
   ran-other r q H = record { holds = H; path = not-dynamic (nodes t u) o q; within = omega arith }
 
-  pub ran-dynamic : (p k count : ℕ) → o ≡ SetDynamic p k count → (r : Reached) → Holds t′ (r .used) n (run (nodes t u) (SetDynamic p k count))
+  pub ran-dynamic : (p k count : ℕ) → o ≡ SetDynamic p k count → (r : Reached) → Represents t′ (r .used) n (run (nodes t u) (SetDynamic p k count))
       → r .number ≡ ensure (nodes t u) p k .number → RanFirst (nodes t u) o t′ r n
   unfolding run
   ran-dynamic p k count q r H e = record {
@@ -133,7 +134,7 @@ module _ (t : List ℕ) (u r : ℕ) where
       ap (λ (j : ℕ). eqb j kindArray) (e ∙ sym (ap (λ (m : Node). m .kind) g)) ∙ simp (ne-eqb r 0 q)
 
 -- all three
-pub plan-ran : (t t₃ : List ℕ) (u n : ℕ) (p : Plan) (path used : ℕ) (array : Bool) → Holds t₃ used n (runAll (nodes t u) (operations p))
+pub plan-ran : (t t₃ : List ℕ) (u n : ℕ) (p : Plan) (path used : ℕ) (array : Bool) → Represents t₃ used n (runAll (nodes t u) (operations p))
     → path ≡ loadedPath (nodes t u) (p .first) → array ≡ isArray (nodes t₃ used) path
     → RanPlan (nodes t u) p t₃ (record { used = used; path = path; array = array }) n
 plan-ran t t₃ u n p path used array H e a = record { holds = H; path = e; array = a ∙ ap (λ (s : List Node). isArray s path) (H .state) }

@@ -1,4 +1,4 @@
--- What a plan writes, by what it says. Assumes nothing.
+-- What a plan writes, by what it says.
 use Prim.Native.Nat.{ℕ, _*_, _≤_}
 use mathlib.Core.Path.{_≡_, sym, ap, subst, _∙_}
 use mathlib.Core.Bool.{Bool, true, false, cond, _&&_}
@@ -12,11 +12,11 @@ use Rattle.analyze.specs.declared.OnStack.{OnStack}
 use Rattle.analyze.specs.declared.OnStack.the-variants as stack
 use Rattle.analyze.specs.declared.InMemory.{InMemory}
 use Rattle.analyze.specs.declared.InMemory.the-variants as memory
-use Rattle.analyze.specs.Plan.{plainArg, writeStack, writeMemory}
+use Rattle.analyze.specs.Plan.{loadedArg, writeStack, writeMemory}
 use Rattle.step.specs.Decide.{StackFits, MemoryFits}
 
 -- a labelled load's, on top
-module _ (s s′ : List ℕ) (offset path : ℕ) (array : Bool) (l : Label) (el : l ≡ plainArg offset path) where
+module _ (s s′ : List ℕ) (offset path : ℕ) (array : Bool) (l : Label) (el : l ≡ loadedArg offset path) where
   pub loaded-length : (eqb offset 0 && array) ≡ true → (a : List ℕ) → a ≡ withTopWord s 1 → s′ ≡ withTopLabel a l
       → s′ ≡ writeStack (stack.Loaded offset) path array s
   unfolding writeStack

@@ -1,12 +1,11 @@
--- "A step arrives": what the call answers and leaves, for any numbers at all. Assumes nothing: these are definitions.
+-- "A step arrives": what the call answers and leaves, for any numbers at all.
 use Prim.Native.Nat.{ℕ}
 use mathlib.Core.Path.{_≡_}
 use mathlib.Core.Bool.{Bool, cond}
 use mathlib.Core.List.{List}
 use lib.Dec.{eqb}
-use Rattle.limits.specs.Questions.{taken}
-use Rattle.limits.specs.Refusal.{numberOf as refusalNumber}
-use Rattle.head.specs.Held.{Held, recordsIn, factsIn, holding}
+use Rattle.limits.specs.Refusal.{taken, numberOf as refusalNumber}
+use Rattle.head.specs.Held.{Held, recordsIn, stateIn, holding}
 use Rattle.head.specs.Asked.{Test, Questions, FirstNo, afterSound}
 use Rattle.labels.specs.Step.{stepOf}
 use Rattle.analyze.specs.Phases.{activeAfter}
@@ -29,17 +28,17 @@ pub record Lent : Type 0 where
 abbrev pub lend : Held → List ℕ → List ℕ → Lent
 lend held stack memory = record { held = held; stack = stack; memory = memory }
 
--- the facts of the used records, with the stack and the memory
+-- the state of the used records, with the stack and the memory
 abbrev pub machineOf : Lent → Machine
-machineOf l = record { facts = factsIn (l .held); stack = l .stack; memory = l .memory }
+machineOf l = record { state = stateIn (l .held); stack = l .stack; memory = l .memory }
 
 -- is the decoder active?
 abbrev pub isActive : Lent → Bool
 isActive l = eqb (l .held .head .active) 1
 
--- what a machine leaves in a table of N records: the lent table is then the table of its facts
+-- what a machine leaves in a table of N records: the lent table is then the table of its state
 abbrev pub leftBy : ℕ → Bool → Machine → Lent
-leftBy N active m = lend (holding N (cond active 1 0) (m .facts)) (m .stack) (m .memory)
+leftBy N active m = lend (holding N (cond active 1 0) (m .state)) (m .stack) (m .memory)
 
 -- the effect of a step that is taken
 unfoldable pub effect : Lent → List ℕ → List ℕ → Lent

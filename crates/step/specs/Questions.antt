@@ -1,23 +1,21 @@
--- Questions 3 to 8, in document 01's words. Assumes nothing: these are definitions.
+-- Questions 3 to 8, in document 01's words.
 use Prim.Native.Nat.{ℕ, _+_, _/_, _%_, _^_}
 use mathlib.Core.Bool.{Bool, cond, not, _&&_, _||_}
 use mathlib.Core.List.{List, [], _∷_}
 use lib.Dec.{eqb, leb, ltb}
 use lib.ListN.{length, getD}
-use Rattle.limits.specs.Limits.{codeMax, slotsMax, entriesMax}
-use Rattle.limits.specs.Layout.{slotWidth, slotLabel, entryWidth, stepWidth, stepOp, stepFirst, stepSecond, stepPick, stepLoadFlag, stepLoad}
-use Rattle.limits.specs.Questions.{codeQuestion, sizesQuestion, labelsQuestion, fieldsQuestion, slotQuestion, roomQuestion}
+use Rattle.limits.specs.Limits.{slotsMax, entriesMax}
+use Rattle.limits.specs.Layout.{slotWidth, slotLabel, entryWidth, stepWidth, stepOp, stepFirst, stepSecond, stepPick}
+use Rattle.limits.specs.Layout.{stepLoadFlag, stepLoad}
+use Rattle.limits.specs.declared.refusal.Refusal.the-variants.{LongCode, BrokenSizes, BrokenLabels, BrokenFields}
+use Rattle.limits.specs.declared.refusal.Refusal.the-variants.{NoSlot, NoRoom}
 use Rattle.word.specs.Numbers.{wordAt}
 use Rattle.opcode.specs.Opcode.{CALLDATACOPY}
 use Rattle.opcode.specs.Lists.{listed, slotNeeders}
 use Rattle.labels.specs.Formed.{isLabel, areSlots, areEntries}
 use Rattle.labels.specs.Step.{stepOf}
-use Rattle.head.specs.Asked.{Test, test}
+use Rattle.head.specs.Asked.{Test, test, codeFits}
 use Rattle.analyze.specs.Analyze.{Machine, analyze}
-
--- 3. "Is the code at most 65,536 bytes?"
-abbrev pub codeFits : List ℕ → Bool
-codeFits bytes = leb (length bytes) codeMax
 
 -- whole slots or entries of that width, at most so many
 abbrev pub areWhole : List ℕ → ℕ → ℕ → Bool
@@ -52,17 +50,18 @@ fieldsFit memory x =
 unfoldable pub slotThere : List ℕ → ℕ → Bool
 slotThere stack op = not (listed op slotNeeders) || leb slotWidth (length stack)
 
--- 8. "Are enough records free for those the step adds?" m is what is lent, the facts of the used records in it
+-- 8. "Are enough records free for those the step adds?" m is what is lent, the state of the used records in it
+-- (decision D37)
 unfoldable pub roomThere : ℕ → Machine → Bool → List ℕ → List ℕ → Bool
-roomThere N m active bytes x = leb (length (analyze m active bytes (stepOf x) .facts)) N
+roomThere N m active bytes x = leb (length (analyze m active bytes (stepOf x) .state)) N
 
 -- 3 to 8, "taken in this order", of a table of N records
 unfoldable pub stepTests : ℕ → Machine → Bool → List ℕ → List ℕ → List Test
 stepTests N m active bytes x =
-    test (codeFits bytes) codeQuestion
-    ∷ test (sizesFit (m .stack) (m .memory) x) sizesQuestion
-    ∷ test (labelsFit (length (m .facts)) (m .stack) (m .memory) x) labelsQuestion
-    ∷ test (fieldsFit (m .memory) x) fieldsQuestion
-    ∷ test (slotThere (m .stack) (getD x stepOp 0)) slotQuestion
-    ∷ test (roomThere N m active bytes x) roomQuestion
+    test (codeFits bytes) LongCode
+    ∷ test (sizesFit (m .stack) (m .memory) x) BrokenSizes
+    ∷ test (labelsFit (length (m .state)) (m .stack) (m .memory) x) BrokenLabels
+    ∷ test (fieldsFit (m .memory) x) BrokenFields
+    ∷ test (slotThere (m .stack) (getD x stepOp 0)) NoSlot
+    ∷ test (roomThere N m active bytes x) NoRoom
     ∷ []

@@ -8,7 +8,7 @@ use crate::judging::judge;
 use head::Admitted;
 use head::Head;
 use head::records_of;
-use limits::questions::TAKEN;
+use limits::TAKEN;
 
 // Document 01's number for an answer, 0 for a step that is taken.
 pub fn number_of(answer: StepAnswer) -> u32

@@ -1,6 +1,6 @@
 // What a step will do, decided from what is lent: questions 3 to 8 and its plan. Nothing is written.
 ghost use Rattle.head.specs.Held.{held};
-ghost use Rattle.head.specs.Asked.{Admits};
+ghost use Rattle.head.specs.Admitting.{Admits};
 ghost use Rattle.step.specs.Call.{lend};
 ghost use Rattle.step.specs.Decide.{Passed, Decides};
 use crate::Decision;

@@ -2,7 +2,7 @@
 ghost use mathlib.Core.Path.{_≡_};
 ghost use mathlib.Core.Bool.{cond};
 ghost use Rattle.head.specs.Held.{held};
-ghost use Rattle.head.specs.Asked.{Admits};
+ghost use Rattle.head.specs.Admitting.{Admits};
 ghost use Rattle.step.specs.Call.{Outcome, lend, numberOf};
 ghost use Rattle.step.specs.Decide.{Accepts};
 use crate::Decision;

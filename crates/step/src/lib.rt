@@ -1,7 +1,6 @@
 // A step arrives: refused by one of the questions 1 to 8, in order, with everything left unchanged, or taken with
 // exactly the effect of `analyze`. It is decided first (`deciding.rt`), from what is lent; then the plan is run on the
-// facts,
-// and what it writes goes to the stack and to the memory, one after the other.
+// facts, and what it writes goes to the stack and to the memory, one after the other.
 mod arrive;
 mod deciding;
 mod judging;

@@ -3,7 +3,7 @@ ghost use mathlib.Core.Path.{_≡_};
 ghost use Prim.Native.Nat.{_≤_};
 ghost use lib.ListN.{length};
 ghost use Rattle.facts.specs.State.{nodes};
-ghost use Rattle.paths.specs.Holds.{Holds};
+ghost use Rattle.paths.specs.Represents.{Represents};
 ghost use Rattle.operations.specs.Run.{run, runAll};
 ghost use Rattle.operations.specs.Asks.{Reaches};
 ghost use Rattle.analyze.specs.Plan.{hintOperations, operations, loadedPath, isArray};
@@ -24,7 +24,8 @@ use paths::Reached;
 pub fn run_hints(table: &mut [u32], n: u32, used: u32, hints: Hints) -> u32
     requires { ⌜ Ready (now table) used n × HintsReach used hints ⌝ }
     requires { ⌜ length (runAll (nodes (now table) used) (hintOperations hints)) ≤ n ⌝ }
-    ensures { λ r. ⌜ Holds (now (table .exit)) r n (runAll (nodes (now (table .entry)) used) (hintOperations hints)) ⌝ }
+    ensures { λ r. ⌜ Represents (now (table .exit)) r n
+        (runAll (nodes (now (table .entry)) used) (hintOperations hints)) ⌝ }
 {
     let first = hints.first;
     let second = hints.second;

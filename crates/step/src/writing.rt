@@ -4,7 +4,7 @@ ghost use Prim.Native.Nat.{_≤_};
 ghost use lib.ListN.{length};
 ghost use Rattle.limits.specs.Layout.{slotWidth};
 ghost use Rattle.labels.specs.Stack.{withTopLabel, withTopWord, stackOnes};
-ghost use Rattle.analyze.specs.Plan.{plainArg, writeStack, writeMemory};
+ghost use Rattle.analyze.specs.Plan.{loadedArg, writeStack, writeMemory};
 ghost use Rattle.step.specs.Decide.{StackFits, MemoryFits};
 use analyze::InMemory;
 use analyze::OnStack;
@@ -19,8 +19,8 @@ use labels::put_top_word;
 use labels::stack_ones;
 
 // The label of an argument, nothing added and no mask.
-fn plain_arg(offset: u32, path: u32) -> Label
-    ensures { λ r. ⌜ r ≡ plainArg offset path ⌝ }
+fn loaded_arg(offset: u32, path: u32) -> Label
+    ensures { λ r. ⌜ r ≡ loadedArg offset path ⌝ }
 {
     Label::Arg(Val {
         offset,
@@ -35,7 +35,7 @@ fn put_loaded(stack: &mut [u32], offset: u32, path: u32, array: bool)
     requires { ⌜ StackFits (OnStack.Loaded offset) (now stack) ⌝ }
     ensures { λ _. ⌜ now (stack .exit) ≡ writeStack (OnStack.Loaded offset) path array (now (stack .entry)) ⌝ }
 {
-    let label = plain_arg(offset, path);
+    let label = loaded_arg(offset, path);
     if (offset == 0) & array {
         put_top_word(stack, 1);
         put_top_label(stack, label);
@@ -80,7 +80,7 @@ fn put_picked(memory: &mut [u32], pick: u32, offset: u32, path: u32, array: bool
     requires { ⌜ MemoryFits (InMemory.Loaded pick offset) (now memory) ⌝ }
     ensures { λ _. ⌜ now (memory .exit) ≡ writeMemory (InMemory.Loaded pick offset) path array (now (memory .entry)) ⌝ }
 {
-    let label = plain_arg(offset, path);
+    let label = loaded_arg(offset, path);
     if (offset == 0) & array {
         put_pick_one(memory, pick);
         put_pick_label(memory, pick, label);

@@ -18,7 +18,7 @@ const MEMORY_ROOM: usize = 15390;
 
 const STEP_ROOM: usize = 64;
 
-// Takes or refuses the step, and writes what it left.
+// Takes or refuses the step, by the head that is lent, and writes what it left.
 fn take_step(
     head: Head,
     table: &mut [u32],
@@ -27,7 +27,7 @@ fn take_step(
     memory: &mut [u32],
     numbers: &[u32],
 ) -> Head {
-    let stepped = step::step(head, table, code, stack, memory, numbers);
+    let stepped = by_reference::run_step(head, table, code, stack, memory, numbers);
     let answer = stepped.answer;
     let next = stepped.head;
     put_step(step::number_of(answer), next, table, stack, memory);

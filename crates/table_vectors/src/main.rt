@@ -1,8 +1,7 @@
 // Puts questions 1 and 2 to the tables of standard input and writes a line for each: its name, and `taken`, `refused 1`
-// or `refused 2`. A vector is 576
-// bytes: name (40), name length, how many numbers, two zeros, used (4), and 132 numbers of 32 bits, of which the first
-// ones are the table; numbers are
-// highest byte first. tools/table_vectors.py makes them, and the answers from a model of its own.
+// or `refused 2`. A vector is 576 bytes: name (40), name length, how many numbers, two zeros, used (4), and 132 numbers
+// of 32 bits, of which the first ones are the table; numbers are highest byte first. tools/table_vectors.py makes them,
+// and the answers from a model of its own.
 mod vector;
 
 use facts::Records;

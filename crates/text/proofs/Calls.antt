@@ -1,4 +1,4 @@
--- The public call, answer by answer, and that it has no other outcome. Assumes nothing.
+-- The public call, answer by answer, and that it has no other outcome.
 use mathlib.Core.Path.{_≡_, refl, sym, ap, _∙_, subst}
 use mathlib.Core.List.{List, [], _++_}
 use Prim.Native.Nat.{ℕ, _+_, _≤_, _<_}
@@ -51,24 +51,30 @@ module _ (cs out : List ℕ) (m : Measure) (measured : MeasuredBy cs m) where
     all-written h out′ eo =
         let t = spelt-text (found .0) cs (found .1) in
         let fits : length (listText (found .0)) ≤ length out = omega (arith, found .2) in
-        written (found .0) passes fits refl (found .2) (eo ∙ ap (sets out 0) t ∙ sets-over (listText (found .0)) out fits)
+        written (found .0) passes fits refl (found .2)
+        (eo ∙ ap (sets out 0) t ∙ sets-over (listText (found .0)) out fits)
 
 -- the types of a list that passes are its only ones
 same-types : (cs : List ℕ) (ts us : AbiTypes) → Passes ts cs → Passes us cs → ts ≡ us
 same-types cs ts us p q = only-types ts us cs (p .spells) (q .spells)
 
 -- ONE OUTCOME FOR ONE INPUT: the number, the length and the slice are the only ones
-pub one-outcome : (cs out : List ℕ) (j k m n : ℕ) (o₁ o₂ : List ℕ) → Outcome cs out j m o₁ → Outcome cs out k n o₂ → (j ≡ k) × (m ≡ n) × (o₁ ≡ o₂)
+pub one-outcome : (cs out : List ℕ) (j k m n : ℕ) (o₁ o₂ : List ℕ) → Outcome cs out j m o₁ → Outcome cs out k n o₂
+    → (j ≡ k) × (m ≡ n) × (o₁ ≡ o₂)
 one-outcome cs out j k m n o₁ o₂ (written ts p f ej em eo) (written us q g ek en fo) =
     let e = same-types cs ts us p q in
-    (ej ∙ sym ek, em ∙ ap (λ (vs : AbiTypes). length (listText vs)) e ∙ sym en, eo ∙ ap (λ (vs : AbiTypes). over (listText vs) out) e ∙ sym fo)
+    let long = ap (λ (vs : AbiTypes). length (listText vs)) e in
+    let slice = ap (λ (vs : AbiTypes). over (listText vs) out) e in
+    (ej ∙ sym ek, em ∙ long ∙ sym en, eo ∙ slice ∙ sym fo)
 one-outcome cs out j k m n o₁ o₂ (written ts p f ej em eo) (no-types never ek en fo) = absurd (never ts p)
 one-outcome cs out j k m n o₁ o₂ (written ts p f ej em eo) (too-long us q g ek en fo) =
     absurd (omega (arith, ap (λ (vs : AbiTypes). length (listText vs)) (same-types cs ts us p q)))
 one-outcome cs out j k m n o₁ o₂ (no-types never ej em eo) (written us q g ek en fo) = absurd (never us q)
-one-outcome cs out j k m n o₁ o₂ (no-types never ej em eo) (no-types neither ek en fo) = (ej ∙ sym ek, em ∙ sym en, eo ∙ sym fo)
+one-outcome cs out j k m n o₁ o₂ (no-types never ej em eo) (no-types neither ek en fo) =
+    (ej ∙ sym ek, em ∙ sym en, eo ∙ sym fo)
 one-outcome cs out j k m n o₁ o₂ (no-types never ej em eo) (too-long us q g ek en fo) = absurd (never us q)
 one-outcome cs out j k m n o₁ o₂ (too-long ts p f ej em eo) (written us q g ek en fo) =
     absurd (omega (arith, ap (λ (vs : AbiTypes). length (listText vs)) (same-types cs ts us p q)))
 one-outcome cs out j k m n o₁ o₂ (too-long ts p f ej em eo) (no-types never ek en fo) = absurd (never ts p)
-one-outcome cs out j k m n o₁ o₂ (too-long ts p f ej em eo) (too-long us q g ek en fo) = (ej ∙ sym ek, em ∙ sym en, eo ∙ sym fo)
+one-outcome cs out j k m n o₁ o₂ (too-long ts p f ej em eo) (too-long us q g ek en fo) =
+    (ej ∙ sym ek, em ∙ sym en, eo ∙ sym fo)

@@ -1,4 +1,4 @@
--- The loop of `measure`, turn by turn. Assumes nothing.
+-- The loop of `measure`, turn by turn.
 use mathlib.Core.Path.{_≡_, sym, subst, _∙_}
 use mathlib.Core.List.{List}
 use Prim.Native.Nat.{ℕ, _+_, _-_, _^_, _≤_, _<_}

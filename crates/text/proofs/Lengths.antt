@@ -1,4 +1,4 @@
--- The length of the text, code by code, and the count of it from the left. Assumes nothing.
+-- The length of the text, code by code, and the count of it from the left.
 use mathlib.Core.Path.{_≡_, refl, sym, ap, _∙_}
 use mathlib.Core.Bool.{true}
 use mathlib.Core.List.{List, [], _∷_}
@@ -8,12 +8,13 @@ use native.Mathlib.Omega.{arith}
 use native.Mathlib.Decide.{ℕ-discrete}
 use lib.ListN.{length, getD, drop, length-append, drop-of-length-le}
 use lib.Seq.{drop-cons}
+use Rattle.names.specs.Ascii.{ascii}
 use Rattle.names.specs.Elementary.{codeOf}
 use Rattle.names.proofs.Codes.{code-is-name, of-code}
 use Rattle.types.specs.Tree.{AbiType, AbiTypes, elementary, array, tuple, nil, cons, count, append, wellFormed}
 use Rattle.types.specs.Codes.{codes, Spells}
 use Rattle.types.specs.Kind.{kindOf}
-use Rattle.types.specs.Text.{text, listText, moreText, closeParen, brackets}
+use Rattle.types.specs.Text.{text, listText, moreText}
 use Rattle.types.specs.declared.CodeKind.the-variants.{Unknown}
 use Rattle.types.proofs.Formed.{tuple-count}
 use Rattle.types.proofs.KindLaws.{name-kind, array-kind, tuple-kind}
@@ -50,10 +51,11 @@ list-length (cons t ts) h = omega (arith, length-append (text t) (moreText ts), 
 whole-length : (t : AbiType) → wellFormed t ≡ true → length (text t) ≡ own (root t) + textSum (parts t)
 unfolding text own root parts textSum wellFormed
 whole-length (elementary e) h = simp (name-kind (codeOf e) (code-is-name e h), of-code e h) (omega arith)
-whole-length (array t) h = simp array-kind (omega (arith, length-append (text t) brackets))
+whole-length (array t) h = simp array-kind (omega (arith, length-append (text t) (ascii "[]")))
 whole-length (tuple ts) h =
     simp (tuple-kind (count ts) (tuple-count ts h))
-    (omega (arith, length-append (listText ts) (closeParen ∷ []), list-length ts (omega (arith, tuple-count ts h)), tuple-count ts h))
+    (let n = tuple-count ts h in
+    omega (arith, length-append (listText ts) (ascii ")"), list-length ts (omega arith)))
 
 -- types that have no codes are none
 no-codes : (us : AbiTypes) → Spells us [] → (textSum us ≡ 0) × (count us ≡ 0)
@@ -95,8 +97,10 @@ counting-none cs = record {
 step-sum : (c k : ℕ) (cs : List ℕ) (ts us : AbiTypes) → Step c k cs ts us → textSum ts ≡ own c + textSum us
 unfolding textSum
 step-sum c k cs ts us s =
-    let first-is : length (text (s .first)) ≡ own c + textSum (parts (s .first)) = rw (s .code) at (whole-length (s .first) (s .formed)) in
-    let us-is : textSum us ≡ textSum (parts (s .first)) + textSum (s .rest) = ap textSum (s .after) ∙ sum-append (parts (s .first)) (s .rest) in
+    let first-is : length (text (s .first)) ≡ own c + textSum (parts (s .first)) =
+    rw (s .code) at (whole-length (s .first) (s .formed)) in
+    let us-is : textSum us ≡ textSum (parts (s .first)) + textSum (s .rest) =
+    ap textSum (s .after) ∙ sum-append (parts (s .first)) (s .rest) in
     let ts-is : textSum ts ≡ length (text (s .first)) + textSum (s .rest) = ap textSum (s .before) in
     omega arith
 
@@ -107,7 +111,8 @@ module _ (cs : List ℕ) (w l i c : ℕ) (more : i < length cs) (ec : c ≡ getD
   pub counting-unknown : kindOf c ≡ Unknown → (ts : AbiTypes) → Spells ts cs → ⊥
   counting-unknown e ts s =
       let x = so-far .left ts s in
-      wanted-unknown c w (drop (i + 1) cs) e record { types = x .us; spells = rw here at (x .spells); enough = x .enough }
+      wanted-unknown c w (drop (i + 1) cs) e
+      record { types = x .us; spells = rw here at (x .spells); enough = x .enough }
 
   module _ (k : ℕ) (follows : Follows c k) (few : k ≤ 65535) (short : own c ≤ 65536) where
     left-more : (ts : AbiTypes) → Spells ts cs → Left (w - 1 + k) (l + commaBefore w + own c) ts (drop (i + 1) cs)
@@ -117,8 +122,9 @@ module _ (cs : List ℕ) (w l i c : ℕ) (more : i < length cs) (ec : c ≡ getD
         let e = step-sum c k (drop (i + 1) cs) (x .us) us st in
         record { us = us; spells = st .spelt-after; enough = omega arith; sum = go x us st e (ℕ-discrete w 0) }
       where
-        go : (x : Left w l ts (drop i cs)) (us : AbiTypes) → Step c k (drop (i + 1) cs) (x .us) us → textSum (x .us) ≡ own c + textSum us → Dec (w ≡ 0) →
-            length (moreText ts) ≡ l + commaBefore w + own c + textSum us + (count us - (w - 1 + k))
+        go : (x : Left w l ts (drop i cs)) (us : AbiTypes) → Step c k (drop (i + 1) cs) (x .us) us
+            → textSum (x .us) ≡ own c + textSum us → Dec (w ≡ 0)
+            → length (moreText ts) ≡ l + commaBefore w + own c + textSum us + (count us - (w - 1 + k))
         go x us st e (yes z) = omega (arith, comma-first w z, st .counts, st .some, x .enough, x .sum)
         go x us st e (no f) = omega (arith, comma-none w f, st .counts, st .some, x .enough, x .sum)
 
@@ -175,4 +181,6 @@ module _ (cs : List ℕ) (w l i : ℕ) (done : length cs ≤ i) (so-far : Counti
         (ts, found .spells, omega (arith, counted, more-length ts, list-length ts n))
 
     pub counting-some : (length cs ≡ 0 → ⊥) → 1 ≤ l
-    counting-some f = let n = some-types cs f (found .types) (found .spells) in omega (arith, counted, more-length (found .types))
+    counting-some f =
+        let n = some-types cs f (found .types) (found .spells) in
+        omega (arith, counted, more-length (found .types))

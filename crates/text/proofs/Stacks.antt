@@ -1,4 +1,4 @@
--- The stack that a slice holds: pushed, topped, and closed one level after the other. Assumes nothing.
+-- The stack that a slice holds: pushed, topped, and closed one level after the other.
 use mathlib.Core.Path.{_≡_, refl, sym, ap, _∙_}
 use mathlib.Core.List.{List, [], _∷_, _++_}
 use Prim.Native.Nat.{ℕ, zero, suc, _+_, _-_, _≤_, _<_}
@@ -7,6 +7,7 @@ use native.Mathlib.Omega.{arith}
 use borrow.Author.Tests.{le-leb, lt-leb}
 use lib.ListN.{length, getD, set, length-append}
 use lib.Seq.{sets, getD-set-same, getD-set-other}
+use Rattle.spell.specs.Stored.{StoredAt}
 use Rattle.spell.proofs.Stores.{sets-append}
 use Rattle.text.specs.Machine.{closer, closers, stillOpen, stackOf, Wrote}
 
@@ -51,99 +52,69 @@ module _ (held : List ℕ) (d k : ℕ) (some : 0 < d) (ek : k ≡ getD held (d -
   open-stay h = ap stillOpen top ∙ simp (lt-leb k 1 h)
 
 -- what the loop of `close` holds: what is left to write, written, is what there was to write
-pub record Closing (held out₀ : List ℕ) (to depth : ℕ) (out : List ℕ) (d at : ℕ) : Type 0 where
-  pub low : d ≤ depth
-  pub size : length out ≡ length out₀
-  pub same : sets out at (closers (stackOf held d)) ≡ sets out₀ to (closers (stackOf held depth))
-  pub still : stillOpen (stackOf held d) ≡ stillOpen (stackOf held depth)
-  pub end : at + length (closers (stackOf held d)) ≡ to + length (closers (stackOf held depth))
-
-pub closing-none : (held out : List ℕ) (to depth : ℕ) → Closing held out to depth out depth to
-closing-none held out to depth = record { low = omega arith; size = refl; same = refl; still = refl; end = refl }
-
-module _ (held out₀ : List ℕ) (to depth : ℕ) (out : List ℕ) (d at : ℕ) (so-far : Closing held out₀ to depth out d at) where
-  pub closing-end : d ≤ 0 → Wrote (closers (stackOf held depth)) (stillOpen (stackOf held depth)) out₀ to out held d at
-  unfolding closers stillOpen stackOf
-  closing-end h =
-      let z : d ≡ 0 = omega arith in
-      record {
-        stored = ap (λ (k : ℕ). sets out at (closers (stackOf held k))) (sym z) ∙ so-far .same;
-        behind = omega (arith, so-far .end, ap (λ (k : ℕ). length (closers (stackOf held k))) z);
-        stack = ap (stackOf held) z ∙ ap (λ (k : ℕ). stillOpen (stackOf held k)) (sym z) ∙ so-far .still;
-      }
-
-  module _ (k : ℕ) (some : 0 < d) (ek : k ≡ getD held (d - 1) 0) where
-    pub closing-stop : 1 < k → d ≤ length held → (held′ : List ℕ) → held′ ≡ set held (d - 1) (k - 1) →
-        Wrote (closers (stackOf held depth)) (stillOpen (stackOf held depth)) out₀ to out held′ d at
-    closing-stop h fits held′ eh =
-        let none = closers-stay held d k some ek h in
-        let back : d - 1 + 1 ≡ d = omega arith in
-        record {
-          stored = ap (sets out at) (sym none) ∙ so-far .same;
-          behind = omega (arith, so-far .end, ap length none);
-          stack =
-              ap (λ (n : ℕ). stackOf held′ n) (sym back) ∙ ap (λ (l : List ℕ). stackOf l (d - 1 + 1)) eh
-              ∙ stack-push held (d - 1) (k - 1) (omega arith) ∙ sym (open-stay held d k some ek h) ∙ so-far .still;
-        }
-
-    module _ (h : k ≤ 1) where
-      both : closers (stackOf held d) ≡ closer k ++ closers (stackOf held (d - 1))
-      both = closers-shut held d k some ek h
-
-      pub closing-room : to + length (closers (stackOf held depth)) ≤ length out₀ → at + length (closer k) ≤ length out
-      closing-room fits = omega (arith, so-far .end, so-far .size, ap length both, length-append (closer k) (closers (stackOf held (d - 1))))
-
-      pub closing-more : (out′ : List ℕ) (at′ : ℕ) → out′ ≡ sets out at (closer k) → at′ ≡ at + length (closer k) → length out′ ≡ length out →
-          Closing held out₀ to depth out′ (d - 1) at′
-      closing-more out′ at′ eo ea el = record {
-        low = omega (arith, so-far .low);
-        size = el ∙ so-far .size;
-        same =
-            (λ i. sets (eo i) (ea i) (closers (stackOf held (d - 1)))) ∙ sym (sets-append out at (closer k) (closers (stackOf held (d - 1))))
-            ∙ ap (sets out at) (sym both) ∙ so-far .same;
-        still = sym (open-shut held d k some ek h) ∙ so-far .still;
-        end = omega (arith, so-far .end, ap length both, length-append (closer k) (closers (stackOf held (d - 1))));
-      }
-
--- the same with the slice that holds the stack, which a turn leaves as it is
 pub record Turn (held₀ out₀ : List ℕ) (to depth : ℕ) (held out : List ℕ) (d at : ℕ) : Type 0 where
-  pub unchanged : held ≡ held₀
-  pub closing : Closing held₀ out₀ to depth out d at
+  pub low : d ≤ depth
+  pub wide : length held ≡ length held₀
+  pub size : length out ≡ length out₀
+  pub same : sets out at (closers (stackOf held d)) ≡ sets out₀ to (closers (stackOf held₀ depth))
+  pub still : stillOpen (stackOf held d) ≡ stillOpen (stackOf held₀ depth)
+  pub end : at + length (closers (stackOf held d)) ≡ to + length (closers (stackOf held₀ depth))
 
 pub turn-none : (held out : List ℕ) (to depth : ℕ) → Turn held out to depth held out depth to
-turn-none held out to depth = record { unchanged = refl; closing = closing-none held out to depth }
+turn-none held out to depth =
+    record { low = omega arith; wide = refl; size = refl; same = refl; still = refl; end = refl }
 
-module _ (held₀ out₀ : List ℕ) (to depth : ℕ) (held out : List ℕ) (d at : ℕ) (turn : Turn held₀ out₀ to depth held out d at) where
-  pub turn-low : d ≤ depth
-  turn-low = turn .closing .low
-
-  pub turn-size : length out ≡ length out₀
-  turn-size = turn .closing .size
-
-  pub turn-wide : length held ≡ length held₀
-  turn-wide = ap length (turn .unchanged)
-
+module _ (held₀ out₀ : List ℕ) (to depth : ℕ) (held out : List ℕ) (d at : ℕ)
+    (turn : Turn held₀ out₀ to depth held out d at) where
   pub turn-end : d ≤ 0 → Wrote (closers (stackOf held₀ depth)) (stillOpen (stackOf held₀ depth)) out₀ to out held d at
-  turn-end h = rw (turn .unchanged) (closing-end held₀ out₀ to depth out d at (turn .closing) h)
+  unfolding closers stillOpen stackOf
+  turn-end h =
+      let z : d ≡ 0 = omega arith in
+      record {
+        stored = ap (λ (k : ℕ). sets out at (closers (stackOf held k))) (sym z) ∙ turn .same;
+        behind = omega (arith, turn .end, ap (λ (k : ℕ). length (closers (stackOf held k))) z);
+        stack = ap (stackOf held) z ∙ ap (λ (k : ℕ). stillOpen (stackOf held k)) (sym z) ∙ turn .still;
+      }
 
-  module _ (some : 0 < d) (wide : depth ≤ length held₀) where
+  module _ (some : 0 < d) (fits : depth ≤ length held₀) where
     pub turn-inside : d - 1 < length held
-    turn-inside = omega (arith, turn .closing .low, ap length (turn .unchanged))
+    turn-inside = omega (arith, turn .low, turn .wide)
 
     module _ (k : ℕ) (ek : k ≡ getD held (d - 1) 0) where
-      k-is : k ≡ getD held₀ (d - 1) 0
-      k-is = ek ∙ ap (λ (l : List ℕ). getD l (d - 1) 0) (turn .unchanged)
-
-      pub turn-stop : 1 < k → Wrote (closers (stackOf held₀ depth)) (stillOpen (stackOf held₀ depth)) out₀ to out (set held (d - 1) (k - 1)) d at
+      pub turn-stop : 1 < k
+          → Wrote (closers (stackOf held₀ depth)) (stillOpen (stackOf held₀ depth)) out₀ to out
+          (set held (d - 1) (k - 1)) d at
       turn-stop h =
-          closing-stop held₀ out₀ to depth out d at (turn .closing) k some k-is h (omega (arith, turn .closing .low)) _
-          (ap (λ (l : List ℕ). set l (d - 1) (k - 1)) (turn .unchanged))
+          let none = closers-stay held d k some ek h in
+          let back : d ≡ d - 1 + 1 = omega arith in
+          record {
+            stored = ap (sets out at) (sym none) ∙ turn .same;
+            behind = omega (arith, turn .end, ap length none);
+            stack =
+                ap (stackOf (set held (d - 1) (k - 1))) back ∙ stack-push held (d - 1) (k - 1) turn-inside
+                ∙ sym (open-stay held d k some ek h) ∙ turn .still;
+          }
 
       module _ (h : k ≤ 1) where
-        pub turn-room : to + length (closers (stackOf held₀ depth)) ≤ length out₀ → at + length (closer k) ≤ length out
-        turn-room fits = closing-room held₀ out₀ to depth out d at (turn .closing) k some k-is h fits
+        both : closers (stackOf held d) ≡ closer k ++ closers (stackOf held (d - 1))
+        both = closers-shut held d k some ek h
 
-        pub turn-again : (out′ : List ℕ) (at′ : ℕ) → out′ ≡ sets out at (closer k) → at′ ≡ at + length (closer k) → length out′ ≡ length out →
-            Turn held₀ out₀ to depth held out′ (d - 1) at′
-        turn-again out′ at′ eo ea el =
-            record { unchanged = turn .unchanged; closing = closing-more held₀ out₀ to depth out d at (turn .closing) k some k-is h out′ at′ eo ea el }
+        long : length (closers (stackOf held d)) ≡ length (closer k) + length (closers (stackOf held (d - 1)))
+        long = ap length both ∙ length-append (closer k) (closers (stackOf held (d - 1)))
+
+        pub turn-room : to + length (closers (stackOf held₀ depth)) ≤ length out₀ → at + length (closer k) ≤ length out
+        turn-room room = omega (arith, turn .end, turn .size, long)
+
+        pub turn-again : (out′ : List ℕ) (at′ : ℕ) → StoredAt (closer k) out at at′ out′
+            → length out′ ≡ length out → Turn held₀ out₀ to depth held out′ (d - 1) at′
+        turn-again out′ at′ s l = record {
+          low = omega (arith, turn .low);
+          wide = turn .wide;
+          size = l ∙ turn .size;
+          same =
+              (λ i. sets (s .0 i) (s .1 i) (closers (stackOf held (d - 1))))
+              ∙ sym (sets-append out at (closer k) (closers (stackOf held (d - 1))))
+              ∙ ap (sets out at) (sym both) ∙ turn .same;
+          still = sym (open-shut held d k some ek h) ∙ turn .still;
+          end = omega (arith, turn .end, s .1, long);
+        }

@@ -1,13 +1,14 @@
--- One code counted, kind by kind. Assumes nothing.
+-- One code counted, kind by kind.
 use mathlib.Core.Path.{_≡_, refl, sym, ap, _∙_}
 use mathlib.Core.Bool.{true}
 use Prim.Native.Nat.{ℕ, _+_, _-_, _≤_, _<_}
 use native.Mathlib.Omega.{arith}
-use native.Mathlib.Decide.{decLt}
-use borrow.Author.Tests.{ne-eqb, lt-ltb, le-ltb}
+use borrow.Author.Tests.{ne-eqb}
 use lib.ListN.{length}
-use Rattle.names.specs.Elementary.{Elementary, bool, address, bytes, string, uint, int, fixedBytes, isName, ofCode}
-use Rattle.names.specs.Text.{decimal, nameText}
+use Rattle.names.specs.Elementary.{isName, ofCode}
+use Rattle.names.specs.Text.{nameText}
+use Rattle.names.proofs.Codes.{name-has-width}
+use Rattle.names.proofs.Texts.{name-short}
 use Rattle.types.specs.declared.CodeKind.{CodeKind}
 use Rattle.types.specs.declared.CodeKind.the-variants.{Name, Array, Tuple, Unknown}
 use Rattle.types.specs.Kind.{kindOf}
@@ -24,44 +25,23 @@ comma-first w e = simp e
 pub comma-none : (w : ℕ) → (w ≡ 0 → ⊥) → 0 ≡ commaBefore w
 comma-none w f = simp (ne-eqb w 0 f)
 
--- a name's text is short
-decimal-short : (n : ℕ) → length (decimal n) ≤ 3
-unfolding decimal
-decimal-short n = ten (decLt n 10) (decLt n 100)
-  where
-    ten : Dec (n < 10) → Dec (n < 100) → length (decimal n) ≤ 3
-    ten (yes h) d = simp (lt-ltb n 10 h) (omega arith)
-    ten (no h) (yes l) = simp (le-ltb n 10 (omega arith), lt-ltb n 100 l) (omega arith)
-    ten (no h) (no l) = simp (le-ltb n 10 (omega arith), le-ltb n 100 (omega arith)) (omega arith)
-
-name-short : (e : Elementary) → length (nameText e) ≤ 8
-unfolding nameText
-name-short bool = omega arith
-name-short address = omega arith
-name-short bytes = omega arith
-name-short string = omega arith
-name-short (uint n) = omega (arith, decimal-short n)
-name-short (int n) = omega (arith, decimal-short n)
-name-short (fixedBytes n) = omega (arith, decimal-short n)
-
 pub is-name : (c : ℕ) (kind : CodeKind) → kind ≡ kindOf c → kind ≡ Name → isName c ≡ true
 is-name c kind ek e = kind-name c (sym ek ∙ e)
-
-pub tuple-small : (c n : ℕ) (kind : CodeKind) → kind ≡ kindOf c → kind ≡ Tuple n → c < 65536 → n < 65536
-tuple-small c n kind ek e h = omega (arith, kind-tuple c n (sym ek ∙ e))
 
 module _ (c w l x f : ℕ) (kind : CodeKind) (ek : kind ≡ kindOf c) (ex : x ≡ w - 1) (ef : f ≡ commaBefore w) where
   by : (k : CodeKind) → kind ≡ k → talliedBy k c w l ≡ tallied c w l
   unfolding tallied
   by k e = ap (λ (j : CodeKind). talliedBy j c w l) (sym e ∙ ek)
 
-  pub tally-name : kind ≡ Name → (n : ℕ) → n ≡ length (nameText (ofCode c)) → Code (record { wanted = x; length = l + f + n }) ≡ tallied c w l
+  pub tally-name : kind ≡ Name → (n : ℕ) → n ≡ length (nameText (ofCode c))
+      → Code (record { wanted = x; length = l + f + n }) ≡ tallied c w l
   tally-name e n en = (λ i. Code (record { wanted = ex i; length = l + ef i + en i })) ∙ by Name e
 
   pub tally-array : kind ≡ Array → Code (record { wanted = x + 1; length = l + f + 2 }) ≡ tallied c w l
   tally-array e = (λ i. Code (record { wanted = ex i + 1; length = l + ef i + 2 })) ∙ by Array e
 
-  pub tally-tuple : (n : ℕ) → kind ≡ Tuple n → Code (record { wanted = x + n; length = l + f + (n + 1) }) ≡ tallied c w l
+  pub tally-tuple : (n : ℕ) → kind ≡ Tuple n
+      → Code (record { wanted = x + n; length = l + f + (n + 1) }) ≡ tallied c w l
   tally-tuple n e = (λ i. Code (record { wanted = ex i + n; length = l + ef i + (n + 1) })) ∙ by (Tuple n) e
 
   pub tally-unknown : kind ≡ Unknown → Missed ≡ tallied c w l
@@ -88,7 +68,8 @@ pub tally-follow : (c w l : ℕ) (t : Tally) → c < 65536 → Code t ≡ tallie
 unfolding tallied
 tally-follow c w l t h = go (kindOf c) refl
   where
-    of : (k n : ℕ) → Follows c k → k ≤ 65535 → own c ≡ n → n ≤ 65536 → Code t ≡ Code (record { wanted = w - 1 + k; length = l + commaBefore w + n }) → Follow c w l t
+    of : (k n : ℕ) → Follows c k → k ≤ 65535 → own c ≡ n → n ≤ 65536
+        → Code t ≡ Code (record { wanted = w - 1 + k; length = l + commaBefore w + n }) → Follow c w l t
     of k n f few e short q =
         let s = same-tally t (record { wanted = w - 1 + k; length = l + commaBefore w + n }) q in
         record {
@@ -103,7 +84,8 @@ tally-follow c w l t h = go (kindOf c) refl
     go : (k : CodeKind) → kindOf c ≡ k → Code t ≡ talliedBy k c w l → Follow c w l t
     go Name e q =
         let z : w - 1 ≡ w - 1 + 0 = omega arith in
-        of 0 (length (nameText (ofCode c))) (name-follows c e) (omega arith) (own-is c Name e) (omega (arith, name-short (ofCode c)))
+        let short = name-short (ofCode c) (name-has-width c (kind-name c e)) in
+        of 0 (length (nameText (ofCode c))) (name-follows c e) (omega arith) (own-is c Name e) (omega arith)
         (q ∙ (λ i. Code (record { wanted = z i; length = l + commaBefore w + length (nameText (ofCode c)) })))
     go Array e q = of 1 2 (array-follows c e) (omega arith) (own-is c Array e) (omega arith) q
     go (Tuple n) e q =

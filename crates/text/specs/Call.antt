@@ -1,11 +1,11 @@
 -- The text call: "The text call asks 10: is the list a whole number of well-formed types, at most 8,192 codes? 11: does
--- the text fit?"; "Bytes beyond the text keep their values." Assumes nothing.
+-- the text fit?"; "Bytes beyond the text keep their values."
 use Prim.Native.Nat.{ℕ, _≤_, _<_}
 use mathlib.Core.Path.{_≡_}
 use mathlib.Core.List.{List, _++_}
 use lib.ListN.{length, drop}
-use Rattle.limits.specs.Questions.{taken, typesQuestion, textQuestion}
-use Rattle.limits.specs.Refusal.{numberOf as refusalNumber}
+use Rattle.limits.specs.Refusal.{taken, numberOf as refusalNumber}
+use Rattle.limits.specs.declared.refusal.Refusal.the-variants.{BadTypes, ShortText}
 use Rattle.types.specs.Tree.{AbiTypes}
 use Rattle.types.specs.Codes.{Passes}
 use Rattle.types.specs.Text.{listText}
@@ -21,10 +21,10 @@ over t out = t ++ drop (length t) out
 pub data Outcome (cs out : List ℕ) (number n : ℕ) (out′ : List ℕ) : Type 0 where
   written : (ts : AbiTypes) → Passes ts cs → length (listText ts) ≤ length out → number ≡ taken
       → n ≡ length (listText ts) → out′ ≡ over (listText ts) out → Outcome cs out number n out′
-  no-types : ((ts : AbiTypes) → Passes ts cs → ⊥) → number ≡ typesQuestion → n ≡ 0 → out′ ≡ out
+  no-types : ((ts : AbiTypes) → Passes ts cs → ⊥) → number ≡ refusalNumber BadTypes → n ≡ 0 → out′ ≡ out
       → Outcome cs out number n out′
-  too-long : (ts : AbiTypes) → Passes ts cs → length out < length (listText ts) → number ≡ textQuestion → n ≡ 0
-      → out′ ≡ out → Outcome cs out number n out′
+  too-long : (ts : AbiTypes) → Passes ts cs → length out < length (listText ts) → number ≡ refusalNumber ShortText
+      → n ≡ 0 → out′ ≡ out → Outcome cs out number n out′
 
 -- document 01's number for each answer; the 0 of a call that is taken is ours
 abbrev pub numberOf : TextAnswer → ℕ

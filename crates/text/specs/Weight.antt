@@ -1,4 +1,5 @@
--- How many bytes of text each code adds, and what the count promises. Assumes nothing.
+-- How many bytes of text each code adds, and what the count promises. In these words one function promises another; no
+-- outcome is written with them.
 use Prim.Native.Nat.{ℕ, _+_, _-_}
 use mathlib.Core.Path.{_≡_}
 use mathlib.Core.List.{List}
@@ -38,7 +39,8 @@ commaBefore wanted = cond (eqb wanted 0) 1 0
 abbrev pub talliedBy : CodeKind → ℕ → ℕ → ℕ → Tallied
 talliedBy Name c wanted l = Code (record { wanted = wanted - 1; length = l + commaBefore wanted + ownBy Name c })
 talliedBy Array c wanted l = Code (record { wanted = wanted - 1 + 1; length = l + commaBefore wanted + ownBy Array c })
-talliedBy (Tuple n) c wanted l = Code (record { wanted = wanted - 1 + n; length = l + commaBefore wanted + ownBy (Tuple n) c })
+talliedBy (Tuple n) c wanted l =
+    Code (record { wanted = wanted - 1 + n; length = l + commaBefore wanted + ownBy (Tuple n) c })
 talliedBy Unknown c wanted l = Missed
 
 unfoldable pub tallied : ℕ → ℕ → ℕ → Tallied

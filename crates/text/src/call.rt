@@ -7,7 +7,7 @@ use crate::count::measure;
 use crate::write::write_list;
 use limits::CODES_MAX;
 use limits::Refusal;
-use limits::questions::TAKEN;
+use limits::TAKEN;
 
 // Document 01's number for an answer, 0 for a text that is written.
 pub fn number_of(answer: TextAnswer) -> u32

@@ -8,9 +8,10 @@ ghost use lib.ListN.{length};
 ghost use lib.Seq.{sets};
 ghost use Rattle.limits.specs.Limits.{codesMax};
 ghost use Rattle.names.specs.Elementary.{isName};
+ghost use Rattle.spell.specs.Stored.{StoredAt};
 ghost use Rattle.types.specs.Kind.{kindOf};
 ghost use Rattle.types.specs.declared.CodeKind.the-variants.{Name};
-ghost use Rattle.text.specs.Machine.{closer, closers, stillOpen, pieceBy, openBy, emit, stackOf, Wrote};
+ghost use Rattle.text.specs.Machine.{closer, closers, stillOpen, pieceBy, emit, stackOf, Wrote, WroteBy};
 use crate::Progress;
 use limits::CODES_MAX;
 use spell::put_bytes;
@@ -20,7 +21,7 @@ use types::kind_of;
 
 fn put_closer(left: u16, out: &mut [u8], to: usize) -> usize
     requires { ⌜ to + length (closer left) ≤ length (now out) ⌝ }
-    ensures { λ r. ⌜ (now (out .exit) ≡ sets (now (out .entry)) to (closer left)) × (r ≡ to + length (closer left)) ⌝ }
+    ensures { λ r. ⌜ StoredAt (closer left) (now (out .entry)) to r (now (out .exit)) ⌝ }
 {
     if left == 0 {
         return put_bytes(out, to, b"[]");
@@ -31,7 +32,8 @@ fn put_closer(left: u16, out: &mut [u8], to: usize) -> usize
 // A type is written: closes what it completes.
 fn close(held: &mut [u16], depth: usize, out: &mut [u8], to: usize) -> Progress
     requires { ⌜ (depth ≤ length (now held)) × (to + length (closers (stackOf (now held) depth)) ≤ length (now out)) ⌝ }
-    ensures { λ r. ⌜ Wrote (closers (stackOf (now (held .entry)) depth)) (stillOpen (stackOf (now (held .entry)) depth)) (now (out .entry)) to (now (out .exit)) (now (held .exit)) (r .depth) (r .to) ⌝ }
+    ensures { λ r. ⌜ Wrote (closers (stackOf (now (held .entry)) depth)) (stillOpen (stackOf (now (held .entry)) depth))
+        (now (out .entry)) to (now (out .exit)) (now (held .exit)) (r .depth) (r .to) ⌝ }
     ensures { λ r. ⌜ r .depth ≤ depth ⌝ }
 {
     let mut d = depth;
@@ -57,8 +59,10 @@ fn write_name(
     to: usize,
 ) -> Progress
     requires { ⌜ isName code ≡ true ⌝ }
-    requires { ⌜ (depth ≤ length (now held)) × (to + length (pieceBy Name (stackOf (now held) depth) code last) ≤ length (now out)) ⌝ }
-    ensures { λ r. ⌜ Wrote (pieceBy Name (stackOf (now (held .entry)) depth) code last) (stillOpen (stackOf (now (held .entry)) depth)) (now (out .entry)) to (now (out .exit)) (now (held .exit)) (r .depth) (r .to) ⌝ }
+    requires { ⌜ (depth ≤ length (now held))
+        × (to + length (pieceBy Name (stackOf (now held) depth) code last) ≤ length (now out)) ⌝ }
+    ensures { λ r. ⌜ WroteBy Name code last (now (held .entry)) depth (now (out .entry)) to
+        (now (out .exit)) (now (held .exit)) (r .depth) (r .to) ⌝ }
     ensures { λ r. ⌜ r .depth ≤ depth ⌝ }
 {
     let at = put_name(out, to, code as u32);
@@ -81,8 +85,10 @@ fn write_code(
     out: &mut [u8],
     to: usize,
 ) -> Progress
-    requires { ⌜ (depth < length (now held)) × (to + length (pieceBy (kindOf code) (stackOf (now held) depth) code last) ≤ length (now out)) ⌝ }
-    ensures { λ r. ⌜ Wrote (pieceBy (kindOf code) (stackOf (now (held .entry)) depth) code last) (openBy (kindOf code) (stackOf (now (held .entry)) depth)) (now (out .entry)) to (now (out .exit)) (now (held .exit)) (r .depth) (r .to) ⌝ }
+    requires { ⌜ (depth < length (now held))
+        × (to + length (pieceBy (kindOf code) (stackOf (now held) depth) code last) ≤ length (now out)) ⌝ }
+    ensures { λ r. ⌜ WroteBy (kindOf code) code last (now (held .entry)) depth (now (out .entry)) to
+        (now (out .exit)) (now (held .exit)) (r .depth) (r .to) ⌝ }
     ensures { λ r. ⌜ r .depth ≤ depth + 1 ⌝ }
 {
     let kind = kind_of(code);

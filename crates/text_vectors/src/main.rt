@@ -1,9 +1,7 @@
 // Runs the text call on the vectors of standard input and writes a line for each: its name, the answer, the text or, if
-// it is long, its sum, and whether
-// the bytes behind it were kept. A vector is 192 bytes: name (40), name length, runs, runs of the block, zero, how
-// often the block is repeated (2), slice
-// length (2), and up to 36 runs of two numbers of 16 bits: how often, and which code; the first runs are the block.
-// Numbers are highest byte first.
+// it is long, its sum, and whether the bytes behind it were kept. A vector is 192 bytes: name (40), name length, runs,
+// runs of the block, zero, how often the block is repeated (2), slice length (2), and up to 36 runs of two numbers of
+// 16 bits: how often, and which code; the first runs are the block. Numbers are highest byte first.
 // tools/text_vectors.py makes them, and the answers from a model of its own.
 mod report;
 mod vector;

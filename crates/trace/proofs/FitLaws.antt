@@ -1,4 +1,4 @@
--- What the sizes that fit say, for those who lend that much. Assumes nothing.
+-- What the sizes that fit say, for those who lend that much.
 use mathlib.Core.Path.{_≡_, refl, sym, _∙_}
 use mathlib.Core.Bool.{Bool, true, false, not, and-eq-true-iff}
 use Prim.Native.Nat.{ℕ, _≤_}

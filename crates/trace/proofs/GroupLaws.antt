@@ -1,5 +1,5 @@
 -- What follows the front of a group: both answers of `group_rest`, room for the longest, and that it is said by the
--- front alone. Assumes nothing.
+-- front alone.
 use mathlib.Core.Path.{_≡_, refl, sym, ap, _∙_}
 use mathlib.Core.Bool.{Bool, true, false, not, cond}
 use mathlib.Core.List.{List, _++_}
@@ -29,7 +29,8 @@ module _ (bs : List ℕ) where
     rest-over n = sym (by false (fits false (not-true r n)))
 
     pub rest-bytes : not r ≡ false → Bytes ((s * slotWidth + e * entryWidth) * numberBytes) ≡ groupRest bs
-    rest-bytes n = (λ i. Bytes ((es i * slotWidth + ee i * entryWidth) * numberBytes)) ∙ sym (by true (fits true (not-false r n)))
+    rest-bytes n =
+        (λ i. Bytes ((es i * slotWidth + ee i * entryWidth) * numberBytes)) ∙ sym (by true (fits true (not-false r n)))
 
   -- the other way round
   pub over-unfit : groupRest bs ≡ Over → groupFits (slotCount bs) (entryCount bs) ≡ false
@@ -42,7 +43,8 @@ module _ (bs : List ℕ) where
           absurd (let n : ⊥ = omega arith in n)
       go false f = refl
 
-  pub bytes-fit : (n : ℕ) → groupRest bs ≡ Bytes n → (groupFits (slotCount bs) (entryCount bs) ≡ true) × (restBytes bs ≡ n)
+  pub bytes-fit : (n : ℕ) → groupRest bs ≡ Bytes n
+      → (groupFits (slotCount bs) (entryCount bs) ≡ true) × (restBytes bs ≡ n)
   bytes-fit n e = go (groupFits (slotCount bs) (entryCount bs)) refl
     where
       go : (b : Bool) → groupFits (slotCount bs) (entryCount bs) ≡ b → (b ≡ true) × (restBytes bs ≡ n)

@@ -1,4 +1,4 @@
--- Where a type ends: the reader that counts the types still wanted stops behind its last code. Assumes nothing.
+-- Where a type ends: the reader that counts the types still wanted stops behind its last code.
 use mathlib.Core.Path.{_≡_, refl, sym, ap, _∙_}
 use mathlib.Core.Bool.{true}
 use mathlib.Core.List.{List, [], _∷_, _++_, append-assoc}
@@ -14,7 +14,6 @@ use Rattle.types.specs.Kind.{kindOf}
 use Rattle.types.specs.declared.CodeKind.{CodeKind}
 use Rattle.types.specs.declared.CodeKind.the-variants.{Name, Array, Tuple, Unknown}
 use Rattle.types.specs.Root.{root, parts}
-use Rattle.types.proofs.KindLaws.{kind-tuple}
 use Rattle.types.proofs.Formed.{head-formed, tail-formed}
 use Rattle.types.proofs.Roots.{codes-root, every-type, root-name, root-array, root-tuple, parts-formed}
 use Rattle.trace.specs.Entry.{follow, span}
@@ -29,9 +28,6 @@ module _ (c : ℕ) (k : CodeKind) (is : k ≡ kindOf c) where
 
   pub follow-tuple : (n : ℕ) → k ≡ Tuple n → n ≡ follow (kindOf c)
   follow-tuple n e = ap follow (sym e ∙ is)
-
-  pub tuple-small : (n : ℕ) → c < 65536 → k ≡ Tuple n → n < 65536
-  tuple-small n h e = omega (arith, kind-tuple c n (sym is ∙ e))
 
   pub follow-unknown : k ≡ Unknown → 0 ≡ follow (kindOf c)
   follow-unknown e = ap follow (sym e ∙ is)
@@ -56,10 +52,12 @@ follow-parts (tuple ts) h = ap follow (root-tuple ts h)
 
 -- where w types more are wanted behind a type, or behind types in a row
 abbrev TypeEnds : AbiType → Type 0
-TypeEnds t = wellFormed t ≡ true → (w : ℕ) (rest : List ℕ) → span (suc w) (codes t ++ rest) ≡ length (codes t) + span w rest
+TypeEnds t =
+    wellFormed t ≡ true → (w : ℕ) (rest : List ℕ) → span (suc w) (codes t ++ rest) ≡ length (codes t) + span w rest
 
 abbrev ListEnds : AbiTypes → Type 0
-ListEnds ts = allWellFormed ts ≡ true → (w : ℕ) (rest : List ℕ) → span (count ts + w) (allCodes ts ++ rest) ≡ length (allCodes ts) + span w rest
+ListEnds ts = allWellFormed ts ≡ true → (w : ℕ) (rest : List ℕ)
+    → span (count ts + w) (allCodes ts ++ rest) ≡ length (allCodes ts) + span w rest
 
 none-ends : ListEnds nil
 unfolding codes count
@@ -82,7 +80,8 @@ whole-ends t q h w rest =
     ∙ a
     ∙ ap (λ (n : ℕ). suc (span n (allCodes (parts t) ++ rest))) e
     ∙ ap suc b
-    ∙ sym (ap (λ (l : List ℕ). length l + span w rest) (codes-root t) ∙ (let z : suc (length (allCodes (parts t))) + span w rest ≡ suc (length (allCodes (parts t)) + span w rest) = omega arith in z))
+    ∙ (let z : suc (length (allCodes (parts t)) + span w rest) ≡ length (codes t) + span w rest =
+    omega (arith, ap length (codes-root t)) in z)
 
 -- a well-formed type ends behind its last code, whatever stands there
 pub span-type : (t : AbiType) (rest : List ℕ) → wellFormed t ≡ true → span 1 (codes t ++ rest) ≡ length (codes t)
@@ -91,8 +90,9 @@ span-type t rest h =
     e ∙ (let z : length (codes t) + span 0 rest ≡ length (codes t) = omega (arith, span-none rest) in z)
 
 -- so that the codes up to there are the type's, and those behind it the others'
-pub entry-codes : (t : AbiType) (rest : List ℕ) → wellFormed t ≡ true →
-    (take (span 1 (codes t ++ rest)) (codes t ++ rest) ≡ codes t) × (drop (span 1 (codes t ++ rest)) (codes t ++ rest) ≡ rest)
+pub entry-codes : (t : AbiType) (rest : List ℕ) → wellFormed t ≡ true
+    → (take (span 1 (codes t ++ rest)) (codes t ++ rest) ≡ codes t)
+    × (drop (span 1 (codes t ++ rest)) (codes t ++ rest) ≡ rest)
 entry-codes t rest h = rw (span-type t rest h) (take-append-seam (codes t) rest, drop-append-seam (codes t) rest)
 
 -- the loop: behind i codes w types are wanted
@@ -116,7 +116,8 @@ module _ (cs : List ℕ) (w i : ℕ) (so-far : Spanning cs w i) where
       let z : w ≡ 0 = omega arith in
       omega (arith, so-far .same, ap (λ (v : ℕ). span v (drop i cs)) z, span-none (drop i cs))
 
-  pub spanning-more : (k : ℕ) → 0 < w → i < length cs → k ≡ follow (kindOf (getD cs i 0)) → k < 65536 → Spanning cs (w - 1 + k) (i + 1)
+  pub spanning-more : (k : ℕ) → 0 < w → i < length cs → k ≡ follow (kindOf (getD cs i 0)) → k < 65536
+      → Spanning cs (w - 1 + k) (i + 1)
   spanning-more k h l e s = record {
     turns = omega arith;
     few = omega (arith, so-far .few);

@@ -1,6 +1,6 @@
--- Where a type ends in a list of codes: a reader from the left counts how many types are still wanted. (`span-type`: it
--- ends behind the last code of the
--- type; `entry-codes`: so that an entry's codes are those of its type.) Assumes nothing: these are definitions.
+-- Where a type ends in a list of codes: a reader from the left counts how many types are still wanted. In these words
+-- one function promises another; no outcome is written with them. (`span-type`: it ends behind the last code of the
+-- type; `entry-codes`: so that an entry's codes are those of its type.)
 use Prim.Native.Nat.{ℕ, suc, _+_, _-_}
 use mathlib.Core.Bool.{cond}
 use mathlib.Core.List.{List, [], _∷_}

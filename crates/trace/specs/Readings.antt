@@ -1,23 +1,21 @@
--- P1's two lines, as bytes. Assumes nothing.
+-- P1's two lines and a refusal's, as text.
 use mathlib.Core.Path.{_≡_, refl}
-use mathlib.Core.List.{[], _∷_}
+use Rattle.names.specs.Ascii.{ascii}
+use Rattle.names.specs.Decimal.{decimalTo, decimal}
 use Rattle.names.specs.Elementary.{uint}
-use Rattle.names.specs.Text.{nameText, decimal as widthText}
+use Rattle.names.specs.Text.{nameText}
 use Rattle.types.specs.Tree.{elementary, array, nil, cons}
 use Rattle.types.specs.Text.{text}
-use Rattle.trace.specs.Lines.{places, decimal, argsLine, refusedLine, entryLine}
+use Rattle.trace.specs.Text.{argsLine, refusedLine, entryLine}
 
--- "args 1 left 8189 head 32"
-pub P1-args : argsLine 1 8189 32 ≡ 97 ∷ 114 ∷ 103 ∷ 115 ∷ 32 ∷ 49 ∷ 32 ∷ 108 ∷ 101 ∷ 102 ∷ 116 ∷ 32 ∷ 56 ∷ 49 ∷ 56 ∷ 57 ∷ 32 ∷ 104 ∷ 101 ∷ 97 ∷ 100 ∷ 32 ∷ 51 ∷ 50 ∷ 10 ∷ []
-unfolding argsLine decimal places
+pub P1-args : argsLine 1 8189 32 ≡ ascii "args 1 left 8189 head 32\n"
+unfolding argsLine decimal decimalTo
 P1-args = refl
 
--- "0 uint256[]"
-pub P1-entry : entryLine 0 (cons (array (elementary (uint 256))) nil) ≡ 48 ∷ 32 ∷ 117 ∷ 105 ∷ 110 ∷ 116 ∷ 50 ∷ 53 ∷ 54 ∷ 91 ∷ 93 ∷ 10 ∷ []
-unfolding entryLine decimal places text nameText widthText
+pub P1-entry : entryLine 0 (cons (array (elementary (uint 256))) nil) ≡ ascii "0 uint256[]\n"
+unfolding entryLine decimal decimalTo text nameText
 P1-entry = refl
 
--- "refused 6 at 1"
-pub refused-6 : refusedLine 6 1 ≡ 114 ∷ 101 ∷ 102 ∷ 117 ∷ 115 ∷ 101 ∷ 100 ∷ 32 ∷ 54 ∷ 32 ∷ 97 ∷ 116 ∷ 32 ∷ 49 ∷ 10 ∷ []
-unfolding refusedLine decimal places
+pub refused-6 : refusedLine 6 1 ≡ ascii "refused 6 at 1\n"
+unfolding refusedLine decimal decimalTo
 refused-6 = refl

@@ -1,6 +1,5 @@
 // What the trace printer reads and writes, on slices: numbers from bytes, the sizes of the input, one entry of a list
-// of codes, and the lines. Nothing here
-// knows of facts or steps, and nothing reads or writes a file.
+// of codes, and the lines. Nothing here knows of facts or steps, and nothing reads or writes a file.
 mod entry;
 mod fits;
 mod group;

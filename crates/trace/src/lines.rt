@@ -1,31 +1,23 @@
 // The lines, each stored at the start of a slice; the answer is its length.
-ghost use mathlib.Core.Path.{_≡_};
 ghost use mathlib.Core.List.{_++_};
 ghost use Prim.Native.Nat.{_+_, _≤_};
 ghost use lib.ListN.{length};
-ghost use lib.Seq.{sets};
-ghost use Rattle.trace.specs.Lines.{decimal, argsLine, refusedLine, lineRoom, Stored, EntryStored};
+ghost use Rattle.names.specs.Decimal.{decimal};
+ghost use Rattle.spell.specs.Stored.{StoredAt, Stored};
+ghost use Rattle.trace.specs.Text.{argsLine, refusedLine};
+ghost use Rattle.trace.specs.Lines.{lineRoom, EntryStored};
 use spell::put_bytes;
+use spell::put_decimal;
 use text::TextAnswer;
 use text::text;
 
 // Room for any line: a type of 8,192 codes has at most nine bytes of text for each.
 pub const LINE_ROOM: usize = 73760;
 
-// A number in decimal.
-fn put_decimal(out: &mut [u8], to: usize, n: u32) -> usize
-    requires { ⌜ to + length (decimal n) ≤ length (now out) ⌝ }
-    ensures { λ r. ⌜ (now (out .exit) ≡ sets (now (out .entry)) to (decimal n)) × (r ≡ to + length (decimal n)) ⌝ }
-{
-    let mut digits = [0u8; 20];
-    let k = io::decimal(n as u64, &mut digits);
-    put_bytes(out, to, &digits[..k])
-}
-
 // Words, and a number behind them.
 fn put_numbered(out: &mut [u8], to: usize, words: &[u8], n: u32) -> usize
     requires { ⌜ to + length (now words) + 10 ≤ length (now out) ⌝ }
-    ensures { λ r. ⌜ (now (out .exit) ≡ sets (now (out .entry)) to (now (words .entry) ++ decimal n)) × (r ≡ to + length (now (words .entry) ++ decimal n)) ⌝ }
+    ensures { λ r. ⌜ StoredAt (now (words .entry) ++ decimal n) (now (out .entry)) to r (now (out .exit)) ⌝ }
     ensures { λ r. ⌜ r ≤ to + length (now (words .entry)) + 10 ⌝ }
 {
     let at = put_bytes(out, to, words);

@@ -1,4 +1,4 @@
--- What stands ahead of a fact's words, line by line of the code. Assumes nothing.
+-- What stands ahead of a fact's words, line by line of the code.
 use Prim.Native.Nat.{ℕ, zero, suc, _+_, _*_, _^_, _≤_, _<_, max}
 use mathlib.Core.Path.{_≡_, refl, sym, ap, _∙_}
 use mathlib.Core.Bool.{Bool, true, false, not, _&&_, _||_}
@@ -16,7 +16,7 @@ use Rattle.limits.specs.Limits.{wordBytes, kindDynamic, kindArray, dynamicCount
 use Rattle.facts.specs.Table.{kindOf, countOf, nameOf}
 use Rattle.facts.specs.Sound.{Sound}
 use Rattle.facts.specs.State.{Node, bare, nodeAt, nodes, nodeOf}
-use Rattle.facts.specs.Fact.{isRecord}
+use Rattle.facts.specs.Checks.{isRecord}
 use Rattle.facts.proofs.Encode.{length-nodes, nodes-get}
 use Rattle.facts.proofs.States.{sound-formed}
 use Rattle.paths.proofs.Frame.{at}

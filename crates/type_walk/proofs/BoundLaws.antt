@@ -1,4 +1,4 @@
--- How large the codes ahead are. Assumes nothing.
+-- How large the codes ahead are.
 use Prim.Native.Nat.{ℕ, suc, _+_, _≤_}
 use mathlib.Core.Path.{_≡_, refl}
 use mathlib.Core.Bool.{Bool, true, false, cond, _&&_, _||_}
@@ -11,9 +11,9 @@ use Rattle.limits.specs.Limits.{wordBytes, kindDynamic, kindArray}
 use Rattle.names.specs.Elementary.{isName}
 use Rattle.names.proofs.Codes.{name-small}
 use Rattle.facts.specs.State.{Node, nodeOf}
-use Rattle.facts.specs.Fact.{isRecord}
+use Rattle.facts.specs.Checks.{isRecord}
 use Rattle.facts.proofs.Whole.{fact-parts}
-use Rattle.list.specs.Seen.{childrenIn, isEmpty, isLonePlain, lastWord}
+use Rattle.list.specs.Seen.{childrenIn, isEmpty, isLoneKindless, lastWord}
 use Rattle.list.specs.Types.{nameHolds, endKey}
 use Rattle.type_walk.specs.declared.Plan.{Plan}
 use Rattle.type_walk.specs.Plan.{plan, wordCode, tupleCode, openPlan, kindPlan, planOf}
@@ -60,4 +60,4 @@ module _ (s : List Node) where
       let n = name-bound (nodeOf s r) F in
       either (nameHolds (nodeOf s r) (isEmpty (childrenIn s r))) _ _ (small (nodeOf s r .name) 0 0 0 (omega arith) (omega arith) (omega arith))
       (either (eqb (nodeOf s r .kind) kindArray) _ _ (small code.array (tupleCode (lastWord s r)) 1 (lastWord s r) (omega arith) (tuple-bound (lastWord s r)) (omega arith))
-      (bounded-open (nodeOf s r .kind) (isEmpty (childrenIn s r)) (isLonePlain s (childrenIn s r)) (endKey s r) (lastWord s r)))
+      (bounded-open (nodeOf s r .kind) (isEmpty (childrenIn s r)) (isLoneKindless s (childrenIn s r)) (endKey s r) (lastWord s r)))

@@ -1,5 +1,5 @@
--- A fact with no child and no kind has one code: its name, or uint256 without one. Assumes nothing.
-use Prim.Native.Nat.{ℕ, _+_, _*_, _≤_}
+-- A record that is not seen, and a fact with no child and no kind, have one code.
+use Prim.Native.Nat.{ℕ, _*_, _≤_}
 use mathlib.Core.Path.{_≡_, refl, sym, ap, _∙_}
 use mathlib.Core.Bool.{Bool, true, false, cond, not, _&&_}
 use mathlib.Core.List.{List, [], _∷_, _++_}
@@ -12,10 +12,11 @@ use Rattle.limits.specs.Codes as code
 use Rattle.limits.specs.Limits.{wordBytes}
 use Rattle.names.specs.Elementary.{codeOf}
 use Rattle.types.specs.Codes.{codes, allCodes}
-use Rattle.facts.specs.Table.{childOf, kindOf, nameOf}
+use Rattle.facts.specs.Table.{childOf, kindOf, nameOf, seenOf}
 use Rattle.facts.specs.Sound.{Sound}
-use Rattle.facts.specs.State.{Node, nodeAt, nodes, nodeOf, kidsIn, kidsOf}
-use Rattle.facts.specs.Fact.{isRecord}
+use Rattle.facts.specs.State.{Node, nodeAt, nodes, nodeOf, kidsIn}
+use Rattle.facts.specs.Linked.{kidsOf}
+use Rattle.facts.specs.Checks.{isRecord}
 use Rattle.facts.proofs.Encode.{length-nodes, nodes-get, kids-nodes}
 use Rattle.facts.proofs.States.{sound-formed}
 use Rattle.facts.proofs.Whole.{fact-parts}
@@ -27,9 +28,9 @@ use Rattle.paths.proofs.Tail.{Tail, tail-start, tail-more, tail-none}
 use Rattle.paths.proofs.Walk.{at-start, at-none}
 use Rattle.paths.proofs.Finds.{found-is}
 use Rattle.list.specs.Seen.{seenOnes, childrenIn, isEmpty, lastFrom, lastWord}
-use Rattle.list.specs.Types.{nameHolds, hasWord, wordsWith, typeOf, wordTypes}
+use Rattle.list.specs.Types.{uint256, nameHolds, hasWord, wordsWith, typeOf, wordTypes}
 use Rattle.type_walk.specs.declared.Plan.{Plan}
-use Rattle.type_walk.specs.Plan.{plan, wordCode, openPlan, kindPlan, planOf, leafCode, leads}
+use Rattle.type_walk.specs.Plan.{plan, wordCode, openPlan, kindPlan, planOf, wordType, leafCode, leads}
 use Rattle.type_walk.proofs.PlanLaws.{lead-some, codes-plan}
 use Rattle.type_walk.proofs.BoundLaws.{name-bound}
 
@@ -127,45 +128,73 @@ module _ (t : List ℕ) (u N c : ℕ) (S : Sound t u N) (c1 : 1 ≤ c) (cu : c �
       go (yes z) = rw (kids-nodes t u c, tail-none t u c h (kidsOf t u c) start z, eq-eqb h 0 z) refl
       go (no n) = rw (kids-nodes t u c, tail-more t u c h (kidsOf t u c) start n .is, ne-eqb h 0 n) refl
 
-  leaf-is : (h k v : ℕ) → h ≡ childOf t c → k ≡ kindOf t c → v ≡ nameOf t c
-      → leafCode (nodes t u) c ≡ cond (eqb h 0 && eqb k 0) (cond (eqb v code.noName) wordCode v) 0
-  unfolding leafCode
-  leaf-is h k v he ke e = rw (kids-empty h he, node-is, ← ke, ← e) refl
-
   -- what the code answers
-  module _ (h k : ℕ) (he : h ≡ childOf t c) (ke : k ≡ kindOf t c) where
-    pub leaf-else : not (eqb h 0 && eqb k 0) ≡ true → 0 ≡ leafCode (nodes t u) c
-    leaf-else q = sym (leaf-is h k (nameOf t c) he ke refl ∙ rw (not-true (eqb h 0 && eqb k 0) q) refl)
+  module _ (w : ℕ) (we : w ≡ seenOf t c) where
+    pub leaf-unseen : (w ≡ 1 → ⊥) → wordCode ≡ leafCode (nodes t u) c
+    unfolding leafCode
+    leaf-unseen n = sym (rw (node-is, ← we, ne-eqb w 1 n) refl)
 
-    module _ (q : not (eqb h 0 && eqb k 0) ≡ false) (v : ℕ) (e : v ≡ nameOf t c) where
-      pub leaf-unnamed : v ≡ 0 → wordCode ≡ leafCode (nodes t u) c
-      leaf-unnamed z = sym (leaf-is h k v he ke e ∙ rw (not-false (eqb h 0 && eqb k 0) q, eq-eqb v 0 z) refl)
+    module _ (w1 : w ≡ 1) where
+      leaf-is : (h k v : ℕ) → h ≡ childOf t c → k ≡ kindOf t c → v ≡ nameOf t c
+          → leafCode (nodes t u) c ≡ cond (eqb h 0 && eqb k 0) (cond (eqb v code.noName) wordCode v) 0
+      unfolding leafCode
+      leaf-is h k v he ke e = rw (kids-empty h he, node-is, ← ke, ← e, ← we, eq-eqb w 1 w1) refl
 
-      pub leaf-named : (v ≡ 0 → ⊥) → v ≡ leafCode (nodes t u) c
-      leaf-named n = sym (leaf-is h k v he ke e ∙ rw (not-false (eqb h 0 && eqb k 0) q, ne-eqb v 0 n) refl)
+      module _ (h k : ℕ) (he : h ≡ childOf t c) (ke : k ≡ kindOf t c) where
+        pub leaf-else : not (eqb h 0 && eqb k 0) ≡ true → 0 ≡ leafCode (nodes t u) c
+        leaf-else q = sym (leaf-is h k (nameOf t c) he ke refl ∙ rw (not-true (eqb h 0 && eqb k 0) q) refl)
+
+        module _ (q : not (eqb h 0 && eqb k 0) ≡ false) (v : ℕ) (e : v ≡ nameOf t c) where
+          pub leaf-unnamed : v ≡ 0 → wordCode ≡ leafCode (nodes t u) c
+          leaf-unnamed z = sym (leaf-is h k v he ke e ∙ rw (not-false (eqb h 0 && eqb k 0) q, eq-eqb v 0 z) refl)
+
+          pub leaf-named : (v ≡ 0 → ⊥) → v ≡ leafCode (nodes t u) c
+          leaf-named n = sym (leaf-is h k v he ke e ∙ rw (not-false (eqb h 0 && eqb k 0) q, ne-eqb v 0 n) refl)
 
   -- and what its answer x says
   module _ (x : ℕ) (e : x ≡ leafCode (nodes t u) c) where
-    answer-is : x ≡ cond (eqb (childOf t c) 0 && eqb (kindOf t c) 0) (cond (eqb (nameOf t c) code.noName) wordCode (nameOf t c)) 0
-    answer-is = e ∙ leaf-is (childOf t c) (kindOf t c) (nameOf t c) refl refl refl
+    -- 0 stands for a fact
+    pub leaf-none : x ≡ 0 → wordType (nodes t u) c ≡ typeOf (nodes t u) c
+    unfolding wordType leafCode
+    leaf-none z = go (eqb (nodeOf (nodes t u) c .seen) 1) _ (sym z ∙ e)
+      where
+        go : (b : Bool) (y : ℕ) → 0 ≡ cond b y wordCode → cond b (typeOf (nodes t u) c) uint256 ≡ typeOf (nodes t u) c
+        go true y q = refl
+        go false y q = absurd (omega arith)
+
+    answer-is : seenOf t c ≡ 1 → x ≡ cond (eqb (childOf t c) 0 && eqb (kindOf t c) 0) (cond (eqb (nameOf t c) code.noName) wordCode (nameOf t c)) 0
+    answer-is w = e ∙ leaf-is (seenOf t c) refl w (childOf t c) (kindOf t c) (nameOf t c) refl refl refl
 
     pub leaf-small : x ≤ 3032
-    leaf-small = rw answer-is (go (eqb (childOf t c) 0 && eqb (kindOf t c) 0) (eqb (nameOf t c) code.noName))
+    leaf-small = go (ℕ-discrete (seenOf t c) 1)
       where
-        go : (a b : Bool) → cond a (cond b wordCode (nameOf t c)) 0 ≤ 3032
-        go false b = omega arith
-        go true true = omega arith
-        go true false = name-small (nameOf t c) refl
+        go : Dec (seenOf t c ≡ 1) → x ≤ 3032
+        go (no n) = let q = e ∙ sym (leaf-unseen (seenOf t c) refl n) in omega arith
+        go (yes w) = rw (answer-is w) (both (eqb (childOf t c) 0 && eqb (kindOf t c) 0) (eqb (nameOf t c) code.noName))
+          where
+            both : (a b : Bool) → cond a (cond b wordCode (nameOf t c)) 0 ≤ 3032
+            both false b = omega arith
+            both true true = omega arith
+            both true false = name-small (nameOf t c) refl
 
-    pub leaf-codes : (x ≡ 0 → ⊥) → codes (typeOf (nodes t u) c) ≡ x ∷ []
-    leaf-codes n = go (ℕ-discrete (childOf t c) 0) (ℕ-discrete (kindOf t c) 0) (ℕ-discrete (nameOf t c) 0)
+    pub leaf-codes : (x ≡ 0 → ⊥) → codes (wordType (nodes t u) c) ≡ x ∷ []
+    unfolding wordType codes codeOf
+    leaf-codes n = go (ℕ-discrete (seenOf t c) 1) (ℕ-discrete (childOf t c) 0) (ℕ-discrete (kindOf t c) 0) (ℕ-discrete (nameOf t c) 0)
       where
-        go : Dec (childOf t c ≡ 0) → Dec (kindOf t c ≡ 0) → Dec (nameOf t c ≡ 0) → codes (typeOf (nodes t u) c) ≡ x ∷ []
-        go (no h) k v = absurd (n (answer-is ∙ rw (ne-eqb (childOf t c) 0 h) refl))
-        go (yes h) (no k) v = absurd (n (answer-is ∙ rw (eq-eqb (childOf t c) 0 h, ne-eqb (kindOf t c) 0 k) refl))
-        go (yes h) (yes k) (yes v) =
-            unnamed-codes (nameOf t c) refl (childOf t c) (kindOf t c) refl h refl k v
-            ∙ ap (λ (y : ℕ). y ∷ []) (sym (answer-is ∙ rw (eq-eqb (childOf t c) 0 h, eq-eqb (kindOf t c) 0 k, eq-eqb (nameOf t c) 0 v) refl))
-        go (yes h) (yes k) (no v) =
-            named-codes (nameOf t c) refl (childOf t c) (kindOf t c) refl h refl k v
-            ∙ ap (λ (y : ℕ). y ∷ []) (sym (answer-is ∙ rw (eq-eqb (childOf t c) 0 h, eq-eqb (kindOf t c) 0 k, ne-eqb (nameOf t c) 0 v) refl))
+        seen-is : nodeOf (nodes t u) c .seen ≡ seenOf t c
+        seen-is = ap (λ (n : Node). n .seen) node-is
+
+        fact : seenOf t c ≡ 1 → codes (wordType (nodes t u) c) ≡ codes (typeOf (nodes t u) c)
+        fact w = rw (eq-eqb (nodeOf (nodes t u) c .seen) 1 (seen-is ∙ w)) refl
+
+        go : Dec (seenOf t c ≡ 1) → Dec (childOf t c ≡ 0) → Dec (kindOf t c ≡ 0) → Dec (nameOf t c ≡ 0) → codes (wordType (nodes t u) c) ≡ x ∷ []
+        go (no w) h k v =
+            rw (ne-eqb (nodeOf (nodes t u) c .seen) 1 (λ z. w (sym seen-is ∙ z))) (ap (λ (y : ℕ). y ∷ []) (leaf-unseen (seenOf t c) refl w ∙ sym e))
+        go (yes w) (no h) k v = absurd (n (answer-is w ∙ rw (ne-eqb (childOf t c) 0 h) refl))
+        go (yes w) (yes h) (no k) v = absurd (n (answer-is w ∙ rw (eq-eqb (childOf t c) 0 h, ne-eqb (kindOf t c) 0 k) refl))
+        go (yes w) (yes h) (yes k) (yes v) =
+            fact w ∙ unnamed-codes (nameOf t c) refl (childOf t c) (kindOf t c) refl h refl k v
+            ∙ ap (λ (y : ℕ). y ∷ []) (sym (answer-is w ∙ rw (eq-eqb (childOf t c) 0 h, eq-eqb (kindOf t c) 0 k, eq-eqb (nameOf t c) 0 v) refl))
+        go (yes w) (yes h) (yes k) (no v) =
+            fact w ∙ named-codes (nameOf t c) refl (childOf t c) (kindOf t c) refl h refl k v
+            ∙ ap (λ (y : ℕ). y ∷ []) (sym (answer-is w ∙ rw (eq-eqb (childOf t c) 0 h, eq-eqb (kindOf t c) 0 k, ne-eqb (nameOf t c) 0 v) refl))

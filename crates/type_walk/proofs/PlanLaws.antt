@@ -1,4 +1,4 @@
--- What is written for a fact is its type's codes: `codes-plan`. Assumes nothing.
+-- What is written for a fact is its type's codes: `codes-plan`.
 use Prim.Native.Nat.{ℕ, zero, suc, _+_, _-_, _*_, _/_, _≤_, max}
 use mathlib.Core.Path.{_≡_, refl, sym, ap, _∙_}
 use mathlib.Core.Bool.{Bool, true, false, false≢true, cond, not, _&&_, _||_, and-eq-true-iff}
@@ -14,11 +14,13 @@ use Rattle.names.proofs.Codes.{name-is-code, name-some}
 use Rattle.types.specs.Tree.{AbiType, AbiTypes, elementary, array, tuple, count}
 use Rattle.types.specs.Codes.{codes, allCodes}
 use Rattle.facts.specs.State.{Node, nodeOf}
-use Rattle.facts.specs.Fact.{isRecord, isCount}
+use Rattle.facts.specs.Fact.{isCount}
+use Rattle.facts.specs.Checks.{isRecord}
 use Rattle.facts.proofs.Whole.{fact-parts}
 use Rattle.paths.specs.Order.{Ordered}
-use Rattle.list.specs.Seen.{childrenIn, isEmpty, isLonePlain, lastKey, lastWord}
-use Rattle.list.specs.Types.{uint256, nameHolds, endKey, startWord, wordCount, together, second, byKind, wordsWith, typeOf, wordTypes}
+use Rattle.list.specs.Seen.{childrenIn, isEmpty, isLoneKindless, lastKey, lastWord}
+use Rattle.list.specs.Types.{uint256, nameHolds, endKey, startWord, wordCount, together, second, byKind, wordsWith}
+use Rattle.list.specs.Types.{typeOf, wordTypes}
 use Rattle.list.proofs.TypeLaws.{count-words, type-is}
 use Rattle.type_walk.specs.declared.Plan.{Plan}
 use Rattle.type_walk.specs.Plan.{plan, tupleCode, openPlan, kindPlan, planOf, lead, leads}
@@ -73,21 +75,21 @@ module _ (s : List Node) (r : ℕ) where
   openType q =
       cond (eqb (nodeOf s r .kind) kindDynamic && eqb (endKey s r) 0 && isEmpty (childrenIn s r)) (elementary bytes)
       (cond (eqb (nodeOf s r .kind) kindDynamic && eqb (endKey s r) wordBytes && isEmpty (childrenIn s r)) (array uint256)
-      (cond (eqb (nodeOf s r .kind) kindDynamic && eqb (endKey s r) wordBytes && isLonePlain s (childrenIn s r)) (array (second q)) (together q)))
+      (cond (eqb (nodeOf s r .kind) kindDynamic && eqb (endKey s r) wordBytes && isLoneKindless s (childrenIn s r)) (array (second q)) (together q)))
 
   spelt-open : Spelt (openType (wordTypes s r 0 (suc (lastWord s r))))
-      (openPlan (nodeOf s r .kind) (isEmpty (childrenIn s r)) (isLonePlain s (childrenIn s r)) (endKey s r) (lastWord s r))
+      (openPlan (nodeOf s r .kind) (isEmpty (childrenIn s r)) (isLoneKindless s (childrenIn s r)) (endKey s r) (lastWord s r))
   unfolding openPlan codes codeOf allCodes wordsWith
   spelt-open =
       either (eqb (nodeOf s r .kind) kindDynamic && eqb (endKey s r) 0 && isEmpty (childrenIn s r)) _ _ _ _ (λ _. refl)
       (λ _. either (eqb (nodeOf s r .kind) kindDynamic && eqb (endKey s r) wordBytes && isEmpty (childrenIn s r)) _ _ _ _ (λ _. refl)
-      (λ _. either (eqb (nodeOf s r .kind) kindDynamic && eqb (endKey s r) wordBytes && isLonePlain s (childrenIn s r)) _ _ _ _
+      (λ _. either (eqb (nodeOf s r .kind) kindDynamic && eqb (endKey s r) wordBytes && isLoneKindless s (childrenIn s r)) _ _ _ _
       (λ h. spelt-second (lastWord s r) (last-one h))
       (λ _. spelt-together 0 (suc (lastWord s r)) (omega arith))))
     where
-      last-one : eqb (nodeOf s r .kind) kindDynamic && eqb (endKey s r) wordBytes && isLonePlain s (childrenIn s r) ≡ true → lastWord s r ≡ 1
+      last-one : eqb (nodeOf s r .kind) kindDynamic && eqb (endKey s r) wordBytes && isLoneKindless s (childrenIn s r) ≡ true → lastWord s r ≡ 1
       last-one h = ends (eqb-true (endKey s r) wordBytes (and-eq-true-iff (eqb (nodeOf s r .kind) kindDynamic) (eqb (endKey s r) wordBytes) .0
-          (and-eq-true-iff (eqb (nodeOf s r .kind) kindDynamic && eqb (endKey s r) wordBytes) (isLonePlain s (childrenIn s r)) .0 h .0) .1))
+          (and-eq-true-iff (eqb (nodeOf s r .kind) kindDynamic && eqb (endKey s r) wordBytes) (isLoneKindless s (childrenIn s r)) .0 h .0) .1))
 
   -- the words of an array and of another fact
   spelt-kind : (nodeOf s r .kind ≡ kindArray → 1 ≤ lastWord s r) → Spelt (byKind s r (wordTypes s r (startWord (nodeOf s r)) (wordCount s r))) (kindPlan s r)
@@ -98,7 +100,7 @@ module _ (s : List Node) (r : ℕ) where
           → Spelt
           (cond b (array (together (wordTypes s r (cond b 1 0) (suc (lastWord s r) - cond b 1 0)))) (openType (wordTypes s r (cond b 1 0) (suc (lastWord s r) - cond b 1 0))))
           (cond b (plan code.array (tupleCode (lastWord s r)) 1 (lastWord s r))
-          (openPlan (nodeOf s r .kind) (isEmpty (childrenIn s r)) (isLonePlain s (childrenIn s r)) (endKey s r) (lastWord s r)))
+          (openPlan (nodeOf s r .kind) (isEmpty (childrenIn s r)) (isLoneKindless s (childrenIn s r)) (endKey s r) (lastWord s r)))
       go true e =
           let l : suc (lastWord s r) - 1 ≡ lastWord s r = omega arith in
           rw l (spelt-array 1 (lastWord s r) (some (eqb-true (nodeOf s r .kind) kindArray e)))

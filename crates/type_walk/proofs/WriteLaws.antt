@@ -1,35 +1,37 @@
--- The codes of a fact's words, stored one word after the other: what is left to store before each. Assumes nothing.
+-- The codes of a fact's words, stored one word after the other: what is left to store before each.
 use Prim.Native.Nat.{ℕ, suc, _+_, _-_, _*_, _≤_, _<_}
 use mathlib.Core.Path.{_≡_, refl, sym, ap, _∙_}
-use mathlib.Core.Bool.{Bool, true, false, true≢false, cond, not, _&&_, and-eq-true-iff}
+use mathlib.Core.Bool.{cond}
 use mathlib.Core.List.{List, [], _∷_, _++_}
 use native.Mathlib.Omega.{arith}
 use native.Mathlib.Nat.{add-zero}
 use native.Mathlib.Decide.{ℕ-discrete}
-use lib.Dec.{eqb}
-use lib.ListN.{length, set, length-append}
+use lib.ListN.{length, getD, set, length-append}
 use lib.Seq.{sets, length-sets}
-use borrow.Author.Tests.{eqb-true, eq-eqb, ne-eqb}
-use Rattle.limits.specs.Limits.{wordBytes, typesRoom}
+use mir.Syntax.{w32}
+use mir.Val.{Fits}
+use borrow.Author.Tests.{eq-eqb, ne-eqb}
+use Rattle.limits.specs.Limits.{wordBytes, typesRoom, recordWidth}
 use Rattle.spell.proofs.Stores.{sets-append, sets-both}
 use Rattle.names.specs.Elementary.{codeOf}
 use Rattle.types.specs.Codes.{codes, allCodes}
 use Rattle.types.proofs.Sizes.{count-codes}
-use Rattle.facts.specs.Table.{keyOf, parentOf, childOf, nextOf, seenOf}
-use Rattle.facts.specs.Links.{Linked}
+use Rattle.facts.specs.Table.{keyOf, parentOf, childOf, nextOf}
+use Rattle.facts.specs.Access.{Has}
+use Rattle.facts.specs.Links.{Kid}
+use Rattle.facts.specs.Linked.{Linked}
 use Rattle.facts.specs.Sound.{Sound}
-use Rattle.facts.specs.State.{Node, nodes, nodeOf}
-use Rattle.facts.proofs.Encode.{nodes-get}
+use Rattle.facts.specs.State.{Node, nodes}
 use Rattle.paths.specs.Find.{findIn}
-use Rattle.paths.specs.Order.{Ordered}
 use Rattle.paths.proofs.Frame.{sound-shaped}
-use Rattle.paths.proofs.Reach.{shaped-ordered}
-use Rattle.paths.proofs.Walk.{At, at-start, at-found, at-past, at-none}
+use Rattle.paths.proofs.Tail.{key-fits, next-less}
+use Rattle.paths.proofs.Walk.{left as keys-left, kid-has, At, at-start, at-found, at-past, at-none}
 use Rattle.paths.proofs.Finds.{found-is}
 use Rattle.list.specs.Types.{uint256, hasWord, wordsWith, typeOf, wordTypes}
-use Rattle.list.proofs.TypeLaws.{count-words, found-range, has-found}
-use Rattle.type_walk.specs.Walk.{Reached, Writing}
-use Rattle.type_walk.specs.Plan.{wordCode, wordChild, lead}
+use Rattle.list.proofs.TypeLaws.{count-words}
+use Rattle.type_walk.specs.declared.Rest.{Rest}
+use Rattle.type_walk.specs.Walk.{Reached, Writing, Led}
+use Rattle.type_walk.specs.Plan.{wordCode, wordType, lead}
 use Rattle.type_walk.proofs.PlanLaws.{lead-some}
 
 -- one code or none
@@ -58,34 +60,6 @@ module _ (l : List ℕ) (i f g : ℕ) where
       → (l″ ≡ sets l i (lead f ++ lead g)) × (k ≡ i + length (lead f ++ lead g))
   both-leads l′ l″ j k e q d p = (sets-both l l′ l″ i j (lead f) (lead g) e q d, let n = leads-length in omega arith)
 
--- the child of a word
-module _ (s : List Node) (r w c : ℕ) (e : c ≡ findIn s r (wordBytes * w)) where
-  pub child-none : c ≡ 0 → 0 ≡ wordChild s r w
-  unfolding wordChild
-  child-none z = sym (rw (eq-eqb (findIn s r (wordBytes * w)) 0 (sym e ∙ z)) refl)
-
-  pub child-seen : (v : ℕ) → (c ≡ 0 → ⊥) → nodeOf s c .seen ≡ v → v ≡ 1 → c ≡ wordChild s r w
-  unfolding wordChild
-  child-seen v n q h =
-      sym (rw (ne-eqb (findIn s r (wordBytes * w)) 0 (λ z. n (e ∙ z)), eq-eqb (nodeOf s (findIn s r (wordBytes * w)) .seen) 1 (ap (λ (x : ℕ). nodeOf s x .seen) (sym e) ∙ q ∙ h)) (sym e))
-
-  pub child-unseen : (v : ℕ) → (c ≡ 0 → ⊥) → nodeOf s c .seen ≡ v → (v ≡ 1 → ⊥) → 0 ≡ wordChild s r w
-  unfolding wordChild
-  child-unseen v n q h =
-      sym (rw (ne-eqb (findIn s r (wordBytes * w)) 0 (λ z. n (e ∙ z)), ne-eqb (nodeOf s (findIn s r (wordBytes * w)) .seen) 1 (λ z. h (sym q ∙ ap (λ (x : ℕ). nodeOf s x .seen) e ∙ z))) refl)
-
-pub seen-at : (t : List ℕ) (u c v : ℕ) → (c ≡ 0 → ⊥) → c ≤ u → v ≡ seenOf t c → nodeOf (nodes t u) c .seen ≡ v
-seen-at t u c v n h e = ap (λ (x : Node). x .seen) (nodes-get t u c (omega (arith, n)) h) ∙ sym e
-
--- a child that is there has a higher number
-pub child-above : (s : List Node) (r w c : ℕ) → Ordered s → 1 ≤ r → c ≡ wordChild s r w → (c ≡ 0 → ⊥) → (r < c) × (c ≤ length s)
-unfolding wordChild
-child-above s r w c O r1 e n = go (hasWord s r w) refl e
-  where
-    go : (b : Bool) → hasWord s r w ≡ b → c ≡ cond b (findIn s r (wordBytes * w)) 0 → (r < c) × (c ≤ length s)
-    go true h q = rw q (found-range s O r (wordBytes * w) r1 (has-found s O r w h))
-    go false h q = absurd (n q)
-
 -- the child to look at
 module _ (t : List ℕ) (u p : ℕ) (L : Linked t u) (p1 : 1 ≤ p) (pu : p ≤ u) where
   reached-at : (k c : ℕ) → Reached t u p k c → At t u p k c
@@ -97,10 +71,6 @@ module _ (t : List ℕ) (u p : ℕ) (L : Linked t u) (p1 : 1 ≤ p) (pu : p ≤ 
   -- it stays before a higher key
   pub reached-up : (k k′ c : ℕ) → k ≤ k′ → Reached t u p k c → Reached t u p k′ c
   reached-up k k′ c h R = let b = R .below in record { low = R .low; below = omega arith; first = R .first }
-
-  -- where the chain has ended it stays so
-  pub reached-end : (k k′ c : ℕ) → k ≤ k′ → Reached t u p k c → c ≡ 0 → Reached t u p k′ 0
-  reached-end k k′ c h R z = rw z at (reached-up k k′ c h R)
 
   -- the next one, behind a lower key
   pub reached-next : (k c c′ : ℕ) → Reached t u p k c → (c ≡ 0 → ⊥) → keyOf t c < k → c′ ≡ nextOf t c → Reached t u p k c′
@@ -145,31 +115,10 @@ no-codes : (s : List Node) (r w : ℕ) → 0 ≡ findIn s r (wordBytes * w) → 
 unfolding codes codeOf
 no-codes s r w e = rw (eq-eqb (findIn s r (wordBytes * w)) 0 (sym e)) refl
 
--- of one whose child is c
-word-codes : (s : List Node) (r w c : ℕ) → c ≡ findIn s r (wordBytes * w) → (c ≡ 0 → ⊥) → nodeOf s c .seen ≡ 1 → wordCodes s r w ≡ codes (typeOf s c)
-word-codes s r w c e n q =
-    rw (
-      ne-eqb (findIn s r (wordBytes * w)) 0 (λ z. n (e ∙ z)),
-      eq-eqb (nodeOf s (findIn s r (wordBytes * w)) .seen) 1 (ap (λ (x : ℕ). nodeOf s x .seen) (sym e) ∙ q),
-    )
-    (ap (λ (x : ℕ). codes (typeOf s x)) (sym e))
-
--- by the seen child that was looked for
-child-codes : (s : List Node) (r w c : ℕ) → c ≡ wordChild s r w → (c ≡ 0 → ⊥) → wordCodes s r w ≡ codes (typeOf s c)
-unfolding wordChild
-child-codes s r w c e n = go (hasWord s r w) e
-  where
-    go : (b : Bool) → c ≡ cond b (findIn s r (wordBytes * w)) 0 → codes (cond b (typeOf s (findIn s r (wordBytes * w))) uint256) ≡ codes (typeOf s c)
-    go true q = ap (λ (x : ℕ). codes (typeOf s x)) (sym q)
-    go false q = absurd (n q)
-
-childless-codes : (s : List Node) → Ordered s → (r w : ℕ) → wordChild s r w ≡ 0 → wordCodes s r w ≡ wordCode ∷ []
-unfolding wordChild codes codeOf
-childless-codes s O r w e = go (hasWord s r w) refl e
-  where
-    go : (b : Bool) → hasWord s r w ≡ b → cond b (findIn s r (wordBytes * w)) 0 ≡ 0 → codes (cond b (typeOf s (findIn s r (wordBytes * w))) uint256) ≡ wordCode ∷ []
-    go true h q = absurd (has-found s O r w h q)
-    go false h q = refl
+-- of one at whose key the record c stands
+word-codes : (s : List Node) (r w c : ℕ) → c ≡ findIn s r (wordBytes * w) → (c ≡ 0 → ⊥) → wordCodes s r w ≡ codes (wordType s c)
+unfolding wordType
+word-codes s r w c e n = rw (ne-eqb (findIn s r (wordBytes * w)) 0 (λ z. n (e ∙ z)), ← e) refl
 
 module _ (t : List ℕ) (u r start words : ℕ) (types₀ : List ℕ) (at : ℕ) where
   pub writing-start : (c : ℕ) → Reached t u r (wordBytes * start) c → Writing t u r start words types₀ at types₀ at c 0
@@ -242,9 +191,6 @@ module _ (t : List ℕ) (u r start words : ℕ) (types₀ : List ℕ) (at : ℕ)
     }
 
 module _ (t : List ℕ) (u N r start words : ℕ) (S : Sound t u N) (r1 : 1 ≤ r) (ru : r ≤ u) (types₀ : List ℕ) (at : ℕ) where
-  ordered : Ordered (nodes t u)
-  ordered = shaped-ordered t u N (sound-shaped t u N S)
-
   -- the walk of the words begins with the first child
   pub walk-start : (c : ℕ) → c ≡ childOf t r → Writing t u r start words types₀ at types₀ at c 0
   walk-start c e = writing-start t u r start words types₀ at c (reached-start t u r (sound-shaped t u N S .linked) r1 ru (wordBytes * start) c e)
@@ -265,74 +211,103 @@ module _ (t : List ℕ) (u N r start words : ℕ) (S : Sound t u N) (r1 : 1 ≤ 
         writing-next t u r start words types₀ at types to c i W lt (wordCode ∷ []) gap-is types′ to′ c d q
         (reached-up t u r (sound-shaped t u N S .linked) r1 ru (wordBytes * (start + i)) (wordBytes * (start + i) + 1) c (omega arith) (W .reached))
 
-  -- word i, whose child is the one to look at
-  module _ (types : List ℕ) (to c i : ℕ) (W : Writing t u r start words types₀ at types to c i) (lt : i < words) (n : c ≡ 0 → ⊥)
-      (key : keyOf t c ≡ wordBytes * (start + i)) (seen : seenOf t c ≡ 1) where
-    word-is : wordCodes (nodes t u) r (start + i) ≡ codes (typeOf (nodes t u) c)
-    word-is =
-        let Z = sound-shaped t u N S in
-        let F = reached-found t u r (Z .linked) r1 ru (Z .root-parent) (wordBytes * (start + i)) c (W .reached) n key in
-        word-codes (nodes t u) r (start + i) c (F .0) n (seen-at t u c 1 n (F .1) (sym seen))
+-- a turn of the walk: word i is left, and there is a child to look at
+pub record Turn (t : List ℕ) (u N r start words : ℕ) (list : List ℕ) (at : ℕ) (types : List ℕ) (to c i : ℕ) : Type 0 where
+  pub sound : Sound t u N
+  pub from : 1 ≤ r
+  pub used : r ≤ u
+  pub writing : Writing t u r start words list at types to c i
+  pub less : i < words
+  pub some : c ≡ 0 → ⊥
 
-    pub child-fits : at + length (allCodes (wordTypes (nodes t u) r start words)) ≤ typesRoom → to + length (codes (typeOf (nodes t u) c)) ≤ typesRoom
-    child-fits room = word-fits t u r start words types₀ at types to c i W lt (codes (typeOf (nodes t u) c)) word-is room
+module _ {t : List ℕ} {u N r start words : ℕ} {list : List ℕ} {at : ℕ} {types : List ℕ} {to c i : ℕ} (T : Turn t u N r start words list at types to c i) where
+  linked : Linked t u
+  linked = sound-shaped t u N (T .sound) .linked
 
-    pub child-next : (types′ : List ℕ) (to′ c′ : ℕ) → types′ ≡ sets types to (codes (typeOf (nodes t u) c)) → to′ ≡ to + length (codes (typeOf (nodes t u) c))
-        → c′ ≡ nextOf t c → Writing t u r start words types₀ at types′ to′ c′ (i + 1)
-    child-next types′ to′ c′ e q d =
-        writing-next t u r start words types₀ at types to c i W lt (codes (typeOf (nodes t u) c)) word-is types′ to′ c′ e q
-        (reached-behind t u r (sound-shaped t u N S .linked) r1 ru (wordBytes * (start + i)) c c′ (W .reached) n key d)
+  pub turn-kid : Kid t u r c
+  turn-kid = T .writing .reached .first .kid (T .some)
 
-  -- word i, whose child q was looked for
-  module _ (types : List ℕ) (to c i : ℕ) (W : Writing t u r start words types₀ at types to c i) (lt : i < words) (q : ℕ)
-      (e : q ≡ wordChild (nodes t u) r (start + i)) where
-    module _ (z : q ≡ 0) where
-      none-is : wordCodes (nodes t u) r (start + i) ≡ wordCode ∷ []
-      none-is = childless-codes (nodes t u) ordered r (start + i) (sym e ∙ z)
+  pub turn-has : {f : ℕ} → f < recordWidth → Has t c f
+  turn-has h = kid-has _ _ _ _ _ linked turn-kid h
 
-      pub none-fits : at + length (allCodes (wordTypes (nodes t u) r start words)) ≤ typesRoom → to + 1 ≤ typesRoom
-      none-fits room = word-fits t u r start words types₀ at types to c i W lt (wordCode ∷ []) none-is room
+  pub turn-small : start ≤ 1 → at + length (allCodes (wordTypes (nodes t u) r start words)) ≤ typesRoom → start + i ≤ typesRoom
+  turn-small s1 room = let h = words-small _ _ _ _ _ _ _ _ _ _ _ (T .writing) s1 room in let l = T .less in omega arith
 
-      pub none-next : (types′ : List ℕ) (to′ c′ : ℕ) → types′ ≡ set types to wordCode → to′ ≡ to + 1 → Reached t u r (wordBytes * (start + i) + 1) c′
-          → Writing t u r start words types₀ at types′ to′ c′ (i + 1)
-      none-next types′ to′ c′ d p R = writing-next t u r start words types₀ at types to c i W lt (wordCode ∷ []) none-is types′ to′ c′ d p R
+  -- the next child has a higher key
+  pub turn-falls : {c′ : ℕ} → ((j : ℕ) → Fits w32 (getD t j 0)) → c′ ≡ nextOf t c → keys-left c′ (keyOf t c′) < keys-left c (keyOf t c)
+  turn-falls h e = next-less _ _ _ _ _ linked (T .from) (T .used) turn-kid (key-fits t h c) e
 
-    module _ (n : q ≡ 0 → ⊥) where
-      some-is : wordCodes (nodes t u) r (start + i) ≡ codes (typeOf (nodes t u) q)
-      some-is = child-codes (nodes t u) r (start + i) q e n
+  -- a child before the word is passed
+  pub turn-passed : {k c′ : ℕ} → k ≡ keyOf t c → k ≤ wordBytes * (start + i) → (k ≡ wordBytes * (start + i) → ⊥) → c′ ≡ nextOf t c
+      → {types′ : List ℕ} {to′ i′ : ℕ} → types′ ≡ types → to′ ≡ to → i′ ≡ i → Writing t u r start words list at types′ to′ c′ i′
+  turn-passed e l n d x y z =
+      let W = T .writing in
+      rw (x, y, z) (record {
+        most = W .most;
+        size = W .size;
+        reached = reached-next _ _ _ linked (T .from) (T .used) _ _ _ (W .reached) (T .some) (omega (arith, n)) d;
+        left = W .left;
+        ends = W .ends;
+      })
 
-      pub some-above : r < q
-      some-above = child-above (nodes t u) r (start + i) q ordered r1 e n .0
+  -- a child at the word
+  module _ {k : ℕ} (ke : k ≡ keyOf t c) (key : k ≡ wordBytes * (start + i)) where
+    here : wordCodes (nodes t u) r (start + i) ≡ codes (wordType (nodes t u) c)
+    here =
+        let Z = sound-shaped t u N (T .sound) in
+        word-codes _ _ _ _ (reached-found t u r linked (T .from) (T .used) (Z .root-parent) _ c (T .writing .reached) (T .some) (sym ke ∙ key) .0) (T .some)
 
-      pub some-fits : at + length (allCodes (wordTypes (nodes t u) r start words)) ≤ typesRoom → to + length (codes (typeOf (nodes t u) q)) ≤ typesRoom
-      some-fits room = word-fits t u r start words types₀ at types to c i W lt (codes (typeOf (nodes t u) q)) some-is room
+    pub turn-fits : at + length (allCodes (wordTypes (nodes t u) r start words)) ≤ typesRoom → to + length (codes (wordType (nodes t u) c)) ≤ typesRoom
+    turn-fits room = word-fits t u r start words list at types to c i (T .writing) (T .less) (codes (wordType (nodes t u) c)) here room
 
-      pub some-next : (types′ : List ℕ) (to′ c′ : ℕ) → types′ ≡ sets types to (codes (typeOf (nodes t u) q)) → to′ ≡ to + length (codes (typeOf (nodes t u) q))
-          → Reached t u r (wordBytes * (start + i) + 1) c′ → Writing t u r start words types₀ at types′ to′ c′ (i + 1)
-      some-next types′ to′ c′ d p R = writing-next t u r start words types₀ at types to c i W lt (codes (typeOf (nodes t u) q)) some-is types′ to′ c′ d p R
+    -- what stands ahead is stored, and then the words that follow
+    module _ {types₁ : List ℕ} {a : Rest} (L : Led (nodes t u) c types to types₁ a) where
+      pub turn-inner : at + length (allCodes (wordTypes (nodes t u) r start words)) ≤ typesRoom
+          → a .to + length (allCodes (wordTypes (nodes t u) c (a .start) (a .words))) ≤ typesRoom
+      turn-inner room = let f = turn-fits room in let e = L .ends in omega arith
 
--- a run of children from word i₀ to word i: whatever was written before it, the run goes on with
+      pub turn-done : {types₂ : List ℕ} {to₂ c′ i′ : ℕ} → types₂ ≡ sets types₁ (a .to) (allCodes (wordTypes (nodes t u) c (a .start) (a .words)))
+          → to₂ ≡ a .to + length (allCodes (wordTypes (nodes t u) c (a .start) (a .words))) → c′ ≡ nextOf t c → i′ ≡ i + 1
+          → Writing t u r start words list at types₂ to₂ c′ i′
+      turn-done e q d z = rw z
+          (writing-next t u r start words list at types to c i (T .writing) (T .less) (codes (wordType (nodes t u) c)) here _ _ _ (e ∙ L .left) (q ∙ L .ends)
+          (reached-behind t u r linked (T .from) (T .used) _ _ _ (T .writing .reached) (T .some) (sym ke ∙ key) d))
+
+-- nothing follows
+pub led-none : {s : List Node} {c : ℕ} {types : List ℕ} {at : ℕ} {types₁ : List ℕ} {a : Rest} → Led s c types at types₁ a → a .words ≡ 0
+    → (types₁ ≡ sets types₁ (a .to) (allCodes (wordTypes s c (a .start) (a .words)))) × (a .to ≡ a .to + length (allCodes (wordTypes s c (a .start) (a .words))))
+unfolding wordsWith allCodes
+led-none {a} L z = rw z (refl, sym (add-zero (a .to)))
+
+-- children passed from word i₀ to word i: whatever was written before, they go on with it
 pub record Ran (t : List ℕ) (u r start words : ℕ) (types₀ : List ℕ) (to₀ c₀ i₀ : ℕ) (types : List ℕ) (to c i : ℕ) : Type 0 where
-  pub since : i₀ ≤ i
   pub adds : (list : List ℕ) (at : ℕ) → Writing t u r start words list at types₀ to₀ c₀ i₀ → Writing t u r start words list at types to c i
+  pub since : i₀ ≤ i
+  pub some : c ≡ 0 → i ≡ words
+  pub fewer : keys-left c (keyOf t c) ≤ keys-left c₀ (keyOf t c₀)
+  pub passed : i < words → wordBytes * (start + i) < keyOf t c → keys-left c (keyOf t c) < keys-left c₀ (keyOf t c₀)
 
-pub ran-start : (t : List ℕ) (u r start words : ℕ) (types : List ℕ) (to c i : ℕ) → Ran t u r start words types to c i types to c i
-ran-start t u r start words types to c i = record { since = omega arith; adds = λ list at W. W }
-
-pub ran-next : (t : List ℕ) (u N r start words : ℕ) → Sound t u N → 1 ≤ r → r ≤ u → (types₀ : List ℕ) (to₀ c₀ i₀ : ℕ) (types : List ℕ) (to c i : ℕ)
-    → Ran t u r start words types₀ to₀ c₀ i₀ types to c i → i < words → (c ≡ 0 → ⊥) → keyOf t c ≡ wordBytes * (start + i) → seenOf t c ≡ 1
-    → (types′ : List ℕ) (to′ c′ : ℕ) → types′ ≡ sets types to (codes (typeOf (nodes t u) c)) → to′ ≡ to + length (codes (typeOf (nodes t u) c)) → c′ ≡ nextOf t c
-    → Ran t u r start words types₀ to₀ c₀ i₀ types′ to′ c′ (i + 1)
-ran-next t u N r start words S r1 ru types₀ to₀ c₀ i₀ types to c i R lt n key seen types′ to′ c′ e q d = record {
-  since = let l = R .since in omega arith;
-  adds = λ list at W. child-next t u N r start words S r1 ru list at types to c i (R .adds list at W) lt n key seen types′ to′ c′ e q d;
+pub ran-start : (t : List ℕ) (u r start words : ℕ) (types : List ℕ) (to c i : ℕ) → (c ≡ 0 → i ≡ words) → (i < words → keyOf t c ≤ wordBytes * (start + i))
+    → Ran t u r start words types to c i types to c i
+ran-start t u r start words types to c i z h = record {
+  adds = λ list at W. W;
+  since = omega arith;
+  some = z;
+  fewer = omega arith;
+  passed = λ l k. absurd (let m = h l in omega arith);
 }
 
--- what is known of the child there
-pub at-parts : (b : Bool) (x y v : ℕ) → b ≡ eqb x y && eqb v 1 → not b ≡ false → (x ≡ y) × (v ≡ 1)
-at-parts false x y v e h = absurd (true≢false h)
-at-parts true x y v e h = let a = and-eq-true-iff (eqb x y) (eqb v 1) .0 (sym e) in (eqb-true x y (a .0), eqb-true v 1 (a .1))
-
-pub writing-same : (t : List ℕ) (u r start words : ℕ) (list : List ℕ) (at : ℕ) (types types′ : List ℕ) (to to′ c c′ i i′ : ℕ)
-    → types′ ≡ types → to′ ≡ to → c′ ≡ c → i′ ≡ i → Writing t u r start words list at types to c i → Writing t u r start words list at types′ to′ c′ i′
-writing-same t u r start words list at types types′ to to′ c c′ i i′ e q d p W = rw (e, q, d, p) W
+-- one more, whose number follows
+pub ran-next : {t : List ℕ} {u r start words : ℕ} {types₀ : List ℕ} {to₀ c₀ i₀ : ℕ} {types : List ℕ} {to c i : ℕ} {types′ : List ℕ} {to′ c′ i′ : ℕ}
+    → Ran t u r start words types₀ to₀ c₀ i₀ types to c i
+    → ((list : List ℕ) (at : ℕ) → Writing t u r start words list at types to c i → Writing t u r start words list at types′ to′ c′ i′)
+    → i ≤ i′ → c′ ≡ c + 1 → keys-left c′ (keyOf t c′) < keys-left c (keyOf t c) → Ran t u r start words types₀ to₀ c₀ i₀ types′ to′ c′ i′
+ran-next R f h e l =
+    let a = R .since in let b = R .fewer in
+    record {
+      adds = λ list at W. f list at (R .adds list at W);
+      since = omega arith;
+      some = λ z. absurd (omega arith);
+      fewer = omega arith;
+      passed = λ _ _. omega arith;
+    }

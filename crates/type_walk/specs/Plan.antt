@@ -1,16 +1,15 @@
 -- How the codes of a fact's type are written: one or two codes ahead, and then those of some of its words.
--- (`codes-plan`: these are the codes of the type.) Assumes
--- nothing: these are definitions.
-use Prim.Native.Nat.{ℕ, zero, suc, _+_, _*_}
+-- (`codes-plan`: these are the codes of the type.)
+use Prim.Native.Nat.{ℕ, zero, suc, _+_}
 use mathlib.Core.Bool.{Bool, cond, _&&_}
 use mathlib.Core.List.{List, [], _∷_, _++_}
 use lib.Dec.{eqb, leb}
 use Rattle.limits.specs.Codes as code
 use Rattle.limits.specs.Limits.{wordBytes, kindDynamic, kindArray}
 use Rattle.facts.specs.State.{Node, nodeOf, kidsIn}
-use Rattle.paths.specs.Find.{findIn}
-use Rattle.list.specs.Seen.{childrenIn, isEmpty, isLonePlain, lastWord}
-use Rattle.list.specs.Types.{nameHolds, endKey, hasWord}
+use Rattle.list.specs.Seen.{childrenIn, isEmpty, isLoneKindless, lastWord}
+use Rattle.types.specs.Tree.{AbiType}
+use Rattle.list.specs.Types.{uint256, nameHolds, endKey, typeOf}
 use Rattle.type_walk.specs.declared.Plan.{Plan}
 
 -- the codes ahead, 0 for none, and then n words from word w on
@@ -38,19 +37,24 @@ openPlan kind childless lone end last =
 unfoldable pub kindPlan : List Node → ℕ → Plan
 kindPlan s r =
     cond (eqb (nodeOf s r .kind) kindArray) (plan code.array (tupleCode (lastWord s r)) 1 (lastWord s r))
-    (openPlan (nodeOf s r .kind) (isEmpty (childrenIn s r)) (isLonePlain s (childrenIn s r)) (endKey s r) (lastWord s r))
+    (openPlan (nodeOf s r .kind) (isEmpty (childrenIn s r)) (isLoneKindless s (childrenIn s r))
+    (endKey s r) (lastWord s r))
 
 -- a fact's, as `typeAt`
 unfoldable pub planOf : List Node → ℕ → Plan
 planOf s r = cond (nameHolds (nodeOf s r) (isEmpty (childrenIn s r))) (plan (nodeOf s r .name) 0 0 0) (kindPlan s r)
 
--- the seen child at a word, 0 for none
-unfoldable pub wordChild : List Node → ℕ → ℕ → ℕ
-wordChild s r w = cond (hasWord s r w) (findIn s r (wordBytes * w)) 0
+-- the type of a word at whose key the record c stands: uint256 where it is not seen
+unfoldable pub wordType : List Node → ℕ → AbiType
+wordType s c = cond (eqb (nodeOf s c .seen) 1) (typeOf s c) uint256
 
--- the one code of a fact with no child and no kind: its name, or uint256 without one; 0 for any other
+-- its one code: the name of a fact with no child and no kind, or uint256 without one; 0 for any other
 unfoldable pub leafCode : List Node → ℕ → ℕ
-leafCode s r = cond (isEmpty (kidsIn s r) && eqb (nodeOf s r .kind) 0) (cond (eqb (nodeOf s r .name) code.noName) wordCode (nodeOf s r .name)) 0
+leafCode s c =
+    cond (eqb (nodeOf s c .seen) 1)
+    (cond (isEmpty (kidsIn s c) && eqb (nodeOf s c .kind) 0)
+    (cond (eqb (nodeOf s c .name) code.noName) wordCode (nodeOf s c .name)) 0)
+    wordCode
 
 -- a code, unless it is 0
 abbrev pub lead : ℕ → List ℕ

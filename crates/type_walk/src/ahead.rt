@@ -65,7 +65,8 @@ fn ends_at(last: u32, count: u32, words: u32) -> bool
 // A dynamic or plain fact.
 fn open_plan(kind: u32, kids: Children, count: u32, last: u32) -> Plan
     requires { ⌜ last ≤ dynamicCountMax ⌝ }
-    ensures { λ p. ⌜ p ≡ openPlan kind (eqb (kids .count) 0) (eqb (kids .count) 1 && eqb (kids .«last_kind») 0) (max (kids .«last_key») (wordBytes * count)) last ⌝ }
+    ensures { λ p. ⌜ p ≡ openPlan kind (eqb (kids .count) 0) (eqb (kids .count) 1 && eqb (kids .«last_kind») 0)
+        (max (kids .«last_key») (wordBytes * count)) last ⌝ }
 {
     let dynamic = kind == KIND_DYNAMIC;
     let childless = kids.count == 0;

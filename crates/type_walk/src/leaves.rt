@@ -1,8 +1,9 @@
 // Words that have one code.
 ghost use mathlib.Core.Path.{_≡_};
-ghost use Prim.Native.Nat.{_+_, _*_, _≤_};
+ghost use Prim.Native.Nat.{_+_, _*_, _≤_, _<_};
 ghost use lib.ListN.{length};
 ghost use Rattle.limits.specs.Limits.{typesRoom, wordBytes};
+ghost use Rattle.facts.specs.Table.{keyOf};
 ghost use Rattle.facts.specs.State.{nodes};
 ghost use Rattle.facts.specs.Sound.{Sound};
 ghost use Rattle.types.specs.Codes.{allCodes};
@@ -18,22 +19,27 @@ use limits::fields::CHILD;
 use limits::fields::KEY;
 use limits::fields::KIND;
 use limits::fields::NAME;
+use limits::fields::SEEN;
 
 // A key that no word comes to: where the words end if no child is left.
 const KEY_END: u32 = 4294967295;
 
-// The one code of a fact with no child and no kind: its name, or uint256 without one. 0 for any other.
-pub fn leaf_code(table: &[u32], n: u32, used: u32, r: u32) -> u32
+// The one code of a word at whose key the record c stands: uint256 where it is not seen; the name of a fact with no
+// child and no kind, or uint256 without one. 0 for any other.
+pub fn leaf_code(table: &[u32], n: u32, used: u32, c: u32) -> u32
     requires { ⌜ Sound (now table) used n ⌝ }
-    requires { ⌜ (1 ≤ r) × (r ≤ used) ⌝ }
-    ensures { λ x. ⌜ x ≡ leafCode (nodes (now (table .entry)) used) r ⌝ }
+    requires { ⌜ (1 ≤ c) × (c ≤ used) ⌝ }
+    ensures { λ x. ⌜ x ≡ leafCode (nodes (now (table .entry)) used) c ⌝ }
 {
-    let childless = field(table, r, CHILD) == 0;
-    let plain = field(table, r, KIND) == 0;
+    if field(table, c, SEEN) != 1 {
+        return WORD_CODE;
+    }
+    let childless = field(table, c, CHILD) == 0;
+    let plain = field(table, c, KIND) == 0;
     if !(childless & plain) {
         return 0;
     }
-    let name = field(table, r, NAME);
+    let name = field(table, c, NAME);
     if name == NO_NAME {
         return WORD_CODE;
     }
@@ -57,8 +63,10 @@ pub fn write_gap(
     requires { ⌜ Reached (now table) used r (wordBytes * start) first ⌝ }
     requires { ⌜ at + length (allCodes (wordTypes (nodes (now table) used) r start words)) ≤ typesRoom ⌝ }
     requires { ⌜ typesRoom ≤ length (now types) ⌝ }
-    ensures { λ w. ⌜ Writing (now (table .entry)) used r start words (now (types .entry)) at (now (types .exit)) (w .to) first (w .done) ⌝ }
-    ensures { λ w. ⌜ (first ≡ 0 → w .done ≡ words) ⌝ }
+    ensures { λ w. ⌜ Writing (now (table .entry)) used r start words
+        (now (types .entry)) at (now (types .exit)) (w .to) first (w .done) ⌝ }
+    ensures { λ w. ⌜ (first ≡ 0 → w .done ≡ words)
+        × (w .done < words → keyOf (now (table .entry)) first ≤ wordBytes * (start + w .done)) ⌝ }
 {
     let mut done: u32 = 0;
     let mut to = at;

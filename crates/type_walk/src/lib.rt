@@ -14,10 +14,12 @@ pub struct Plan {
     pub words: u32,
 }
 
-// A word of a fact: the number of its child, 0 for none, and the child to look at for the next word, 0 for none.
-pub struct Found {
-    pub child: u32,
-    pub next: u32,
+// What is left of a fact's codes behind those ahead: so many of its words from one on, and the index at which they
+// begin.
+pub struct Rest {
+    pub start: u32,
+    pub words: u32,
+    pub to: usize,
 }
 
 // A run of words that are done: how many, and the index behind their codes.

@@ -1,5 +1,5 @@
 -- Two lists of types one after the other: their codes, their number, whether they are well formed; and a list taken
--- apart. Assumes nothing.
+-- apart.
 use mathlib.Core.Path.{_≡_, refl, sym, ap, _∙_}
 use mathlib.Core.Bool.{true, _&&_, and-eq-true-iff, and-assoc}
 use mathlib.Core.List.{_++_, append-assoc as list-assoc}
@@ -52,7 +52,8 @@ append-assoc nil us vs = refl
 append-assoc (cons t ts) us vs = ap (cons t) (append-assoc ts us vs)
 
 -- a list is its first k types and the others
-pub split : (k : ℕ) (ts : AbiTypes) → k ≤ count ts → (us : AbiTypes) × (vs : AbiTypes) × (ts ≡ append us vs) × (count us ≡ k)
+pub split : (k : ℕ) (ts : AbiTypes) → k ≤ count ts
+    → (us : AbiTypes) × (vs : AbiTypes) × (ts ≡ append us vs) × (count us ≡ k)
 unfolding append count
 split zero ts h = (nil, ts, refl, refl)
 split (suc k) nil h = absurd (omega arith)

@@ -1,4 +1,4 @@
--- What it says of the parts that the whole is well formed, and the other way round. Assumes nothing.
+-- What it says of the parts that the whole is well formed, and the other way round.
 use mathlib.Core.Path.{_≡_}
 use mathlib.Core.Bool.{true, and-eq-true-iff}
 use Prim.Native.Nat.{_≤_}

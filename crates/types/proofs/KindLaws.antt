@@ -1,5 +1,5 @@
--- What `kindOf` says, so that it need not be opened. Assumes nothing.
-use mathlib.Core.Path.{_≡_, refl, sym, subst}
+-- What `kindOf` says, so that it need not be opened.
+use mathlib.Core.Path.{_≡_, refl, sym, subst, _∙_}
 use mathlib.Core.Bool.{Bool, true, false, cond}
 use Prim.Native.Nat.{ℕ, _+_, _-_, _≤_, _<_}
 use native.Mathlib.Decide.{ℕ-discrete, decLt}
@@ -64,6 +64,10 @@ module _ (c : ℕ) where
   -- a number of the kind "tuple of n" is 16384 + n, and n is at least 2
   pub kind-tuple : (n : ℕ) → kindOf c ≡ Tuple n → (c ≡ 16384 + n) × (2 ≤ n)
   kind-tuple n e = subst (Says c) e (kind-says c)
+
+  -- n is a u16, as the number is
+  pub tuple-small : (n : ℕ) (kind : CodeKind) → kind ≡ kindOf c → kind ≡ Tuple n → c < 65536 → n < 65536
+  tuple-small n kind is e h = omega (arith, kind-tuple n (sym is ∙ e))
 
   -- a number of the kind "unknown" is none of these
   pub kind-unknown : kindOf c ≡ Unknown → (c ≡ 5 → ⊥) × (c < 16386) × (isName c ≡ false)

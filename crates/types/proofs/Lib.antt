@@ -7,3 +7,4 @@ pub mod Sizes
 pub mod Unique
 pub mod Nodes
 pub mod Joined
+pub mod Shorts

@@ -1,5 +1,4 @@
--- The step of a reader that goes through the codes from the left and counts how many types are still wanted. Assumes
--- nothing.
+-- The step of a reader that goes through the codes from the left and counts how many types are still wanted.
 use mathlib.Core.Path.{_≡_, refl, sym, ap, _∙_}
 use mathlib.Core.Bool.{true}
 use mathlib.Core.List.{List, [], _∷_, head-eq-of-cons-eq, tail-eq-of-cons-eq, nil≢cons}
@@ -14,7 +13,8 @@ use Rattle.types.proofs.Formed.{head-formed, tail-formed, cons-formed}
 use Rattle.types.proofs.Append.{codes-append, count-append, formed-left, formed-right, formed-both, split}
 use Rattle.types.proofs.Sizes.{count-codes}
 use Rattle.types.specs.Root.{root, parts}
-use Rattle.types.proofs.Roots.{codes-cons, Follows, follows-only, unknown-follows, root-follows, parts-formed, whole}
+use Rattle.types.proofs.Roots.{codes-cons, Follows, follows-only, unknown-follows, root-follows, parts-formed}
+use Rattle.types.proofs.Roots.{whole}
 
 -- the codes are those of n types or more
 pub record Wanted (n : ℕ) (cs : List ℕ) : Type 0 where
@@ -38,7 +38,8 @@ pub record Step (c k : ℕ) (cs : List ℕ) (ts us : AbiTypes) : Type 0 where
   pub counts : count us + 1 ≡ count ts + k
 
 -- types that have a code have a first type, and the first code says how many types follow it
-pub opens : (c : ℕ) (cs : List ℕ) (ts : AbiTypes) → Spells ts (c ∷ cs) → (k : ℕ) × Follows c k × (us : AbiTypes) × Step c k cs ts us
+pub opens : (c : ℕ) (cs : List ℕ) (ts : AbiTypes) → Spells ts (c ∷ cs)
+    → (k : ℕ) × Follows c k × (us : AbiTypes) × Step c k cs ts us
 unfolding codes count
 opens c cs nil s = absurd (nil≢cons (s .spelt))
 opens c cs (cons t ts) s =
@@ -59,7 +60,8 @@ opens c cs (cons t ts) s =
         number = refl;
         formed = g;
         spelt-before = s;
-        spelt-after = record { formed = formed-both (parts t) ts p f; spelt = codes-append (parts t) ts ∙ tail-eq-of-cons-eq e };
+        spelt-after =
+            record { formed = formed-both (parts t) ts p f; spelt = codes-append (parts t) ts ∙ tail-eq-of-cons-eq e };
         some = omega arith;
         counts = omega (arith, count-append (parts t) ts);
       },

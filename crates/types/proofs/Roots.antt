@@ -1,4 +1,4 @@
--- A type is a first code and the types that follow it. What the first code says of their number. Assumes nothing.
+-- A type is a first code and the types that follow it. What the first code says of their number.
 use mathlib.Core.Path.{_≡_, refl, sym, ap, _∙_}
 use mathlib.Core.Bool.{true, true≢false}
 use mathlib.Core.List.{List, _∷_, _++_, append-nil}
@@ -6,12 +6,14 @@ use Prim.Native.Nat.{ℕ, _+_, _≤_}
 use native.Mathlib.Omega.{arith}
 use Rattle.names.specs.Elementary.{Elementary, isName, codeOf, ofCode}
 use Rattle.names.proofs.Codes.{code-is-name, of-code, name-small, name-not-array, name-is-code, name-has-width}
-use Rattle.types.specs.Tree.{AbiType, AbiTypes, elementary, array, tuple, nil, cons, count, wellFormed, allWellFormed}
+use Rattle.types.specs.Tree.{AbiType, AbiTypes, elementary, array, tuple, nil, cons, count, wellFormed}
+use Rattle.types.specs.Tree.{allWellFormed}
 use Rattle.types.specs.Codes.{codes, allCodes}
 use Rattle.types.specs.Root.{root, parts}
 use Rattle.types.specs.Kind.{kindOf}
 use Rattle.types.specs.declared.CodeKind.the-variants.{Name, Array, Tuple, Unknown}
-use Rattle.types.proofs.KindLaws.{name-kind, array-kind, tuple-kind, kind-name, kind-array, kind-tuple, kind-unknown}
+use Rattle.types.proofs.KindLaws.{name-kind, array-kind, tuple-kind, kind-name, kind-array, kind-tuple}
+use Rattle.types.proofs.KindLaws.{kind-unknown}
 use Rattle.types.proofs.Formed.{head-formed, cons-formed, tuple-count, tuple-parts, tuple-formed}
 
 -- the codes of a type are its first code and the codes of its parts
@@ -28,7 +30,9 @@ codes-cons t ts = ap (λ (l : List ℕ). l ++ allCodes ts) (codes-root t)
 
 -- An induction: what holds of no types, of one type more, and of a type if it holds of its parts, holds of every type
 -- and of every list.
-module _ (P : AbiType → Type 0) (Q : AbiTypes → Type 0) (none : Q nil) (more : (t : AbiType) (ts : AbiTypes) → P t → Q ts → Q (cons t ts)) (whole : (t : AbiType) → Q (parts t) → P t) where
+module _ (P : AbiType → Type 0) (Q : AbiTypes → Type 0) (none : Q nil)
+    (more : (t : AbiType) (ts : AbiTypes) → P t → Q ts → Q (cons t ts))
+    (whole : (t : AbiType) → Q (parts t) → P t) where
   mutual
     unfolding parts
 
@@ -108,7 +112,8 @@ parts-formed (array t) h = cons-formed t nil h refl
 parts-formed (tuple ts) h = tuple-parts ts h
 
 -- a type is known by its first code and its parts
-pub same-type : (t u : AbiType) → wellFormed t ≡ true → wellFormed u ≡ true → root t ≡ root u → parts t ≡ parts u → t ≡ u
+pub same-type : (t u : AbiType) → wellFormed t ≡ true → wellFormed u ≡ true → root t ≡ root u → parts t ≡ parts u
+    → t ≡ u
 unfolding root parts count wellFormed
 same-type (elementary e) (elementary f) h i r p = ap elementary (sym (of-code e h) ∙ ap ofCode r ∙ of-code f i)
 same-type (elementary e) (array u) h i r p = absurd (omega (arith, ap count p))
@@ -130,9 +135,12 @@ pub record Whole (c : ℕ) (us : AbiTypes) : Type 0 where
 -- there is one where as many parts are given as follow the code
 pub whole : (c k : ℕ) (us : AbiTypes) → Follows c k → count us ≡ k → allWellFormed us ≡ true → Whole c us
 unfolding root parts count wellFormed
-whole c k nil (after-name h p) n f = record { type = elementary (ofCode c); formed = name-has-width c h; first = name-is-code c h; others = refl }
+whole c k nil (after-name h p) n f =
+    record { type = elementary (ofCode c); formed = name-has-width c h; first = name-is-code c h; others = refl }
 whole c k (cons u us) (after-name h p) n f = absurd (omega arith)
 whole c k nil (after-array e p) n f = absurd (omega arith)
-whole c k (cons u nil) (after-array e p) n f = record { type = array u; formed = head-formed u nil f; first = sym e; others = refl }
+whole c k (cons u nil) (after-array e p) n f =
+    record { type = array u; formed = head-formed u nil f; first = sym e; others = refl }
 whole c k (cons u (cons v us)) (after-array e p) n f = absurd (omega arith)
-whole c k us (after-tuple e l) n f = record { type = tuple us; formed = tuple-formed us (omega arith) f; first = omega arith; others = refl }
+whole c k us (after-tuple e l) n f =
+    record { type = tuple us; formed = tuple-formed us (omega arith) f; first = omega arith; others = refl }

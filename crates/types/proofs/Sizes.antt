@@ -1,9 +1,10 @@
--- How many codes a type has, beside the number of its parts and its levels. Assumes nothing.
+-- How many codes a type has, beside the number of its parts and its levels.
 use mathlib.Core.Path.{_≡_, refl, ap}
 use Prim.Native.Nat.{ℕ, suc, _+_, _≤_, max}
 use native.Mathlib.Omega.{arith}
 use lib.ListN.{length, length-append}
-use Rattle.types.specs.Tree.{AbiType, AbiTypes, elementary, array, tuple, nil, cons, count, append, levels, mostLevels}
+use Rattle.types.specs.Tree.{AbiType, AbiTypes, elementary, array, tuple, nil, cons, count, append, levels}
+use Rattle.types.specs.Tree.{mostLevels}
 use Rattle.types.specs.Codes.{codes, allCodes}
 use Rattle.types.specs.Root.{parts}
 use Rattle.types.proofs.Roots.{codes-root, every-type, every-list}
@@ -23,7 +24,8 @@ unfolding codes
 tuple-length ts = refl
 
 -- the codes of a list are those of the first type and of the others
-pub cons-length : (t : AbiType) (ts : AbiTypes) → length (allCodes (cons t ts)) ≡ length (codes t) + length (allCodes ts)
+pub cons-length : (t : AbiType) (ts : AbiTypes)
+    → length (allCodes (cons t ts)) ≡ length (codes t) + length (allCodes ts)
 unfolding codes
 cons-length t ts = length-append (codes t) (allCodes ts)
 
@@ -85,7 +87,8 @@ unfolding levels
 entry-levels us t vs = omega (arith, most-append us (cons t vs))
 
 -- and the list has n at most, if each entry has
-pub most-levels : (n : ℕ) (ts : AbiTypes) → ((us : AbiTypes) (t : AbiType) (vs : AbiTypes) → ts ≡ append us (cons t vs) → levels t ≤ n) → mostLevels ts ≤ n
+pub most-levels : (n : ℕ) (ts : AbiTypes)
+    → ((us : AbiTypes) (t : AbiType) (vs : AbiTypes) → ts ≡ append us (cons t vs) → levels t ≤ n) → mostLevels ts ≤ n
 unfolding levels append
 most-levels n nil h = omega arith
 most-levels n (cons t ts) h =

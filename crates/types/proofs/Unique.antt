@@ -1,4 +1,4 @@
--- A list of codes stands for at most one list of types. Assumes nothing.
+-- A list of codes stands for at most one list of types.
 use mathlib.Core.Path.{_≡_, refl, sym, _∙_}
 use mathlib.Core.Bool.{true}
 use mathlib.Core.List.{List, [], _++_, append-assoc, head-eq-of-cons-eq, tail-eq-of-cons-eq, nil≢cons}
@@ -8,17 +8,20 @@ use Rattle.types.specs.Tree.{AbiType, AbiTypes, nil, cons, count, wellFo
 use Rattle.types.specs.Codes.{codes, allCodes, Spells}
 use Rattle.types.proofs.Formed.{head-formed, tail-formed}
 use Rattle.types.specs.Root.{root, parts}
-use Rattle.types.proofs.Roots.{codes-root, codes-cons, every-type, every-list, follows-only, root-follows, parts-formed, same-type}
+use Rattle.types.proofs.Roots.{codes-root, codes-cons, every-type, every-list, follows-only, root-follows}
+use Rattle.types.proofs.Roots.{parts-formed, same-type}
 
 -- no other type has the same codes in front
 abbrev TypeOnly : AbiType → Type 0
 TypeOnly t =
-    (u : AbiType) (xs ys : List ℕ) → wellFormed t ≡ true → wellFormed u ≡ true → codes t ++ xs ≡ codes u ++ ys → (t ≡ u) × (xs ≡ ys)
+    (u : AbiType) (xs ys : List ℕ) → wellFormed t ≡ true → wellFormed u ≡ true → codes t ++ xs ≡ codes u ++ ys
+    → (t ≡ u) × (xs ≡ ys)
 
 -- no other list of as many types has
 abbrev ListOnly : AbiTypes → Type 0
 ListOnly ts =
-    (us : AbiTypes) (xs ys : List ℕ) → count ts ≡ count us → allWellFormed ts ≡ true → allWellFormed us ≡ true → allCodes ts ++ xs ≡ allCodes us ++ ys → (ts ≡ us) × (xs ≡ ys)
+    (us : AbiTypes) (xs ys : List ℕ) → count ts ≡ count us → allWellFormed ts ≡ true → allWellFormed us ≡ true
+    → allCodes ts ++ xs ≡ allCodes us ++ ys → (ts ≡ us) × (xs ≡ ys)
 
 none-only : ListOnly nil
 unfolding codes count
@@ -43,11 +46,11 @@ whole-only t q u xs ys h i e =
     (same-type t u h i r (b .0), b .1)
 
 -- codes begin with those of at most one type
-pub codes-prefix : (t u : AbiType) (xs ys : List ℕ) → wellFormed t ≡ true → wellFormed u ≡ true → codes t ++ xs ≡ codes u ++ ys → (t ≡ u) × (xs ≡ ys)
+pub codes-prefix : (t : AbiType) → TypeOnly t
 codes-prefix = every-type TypeOnly ListOnly none-only more-only whole-only
 
 -- codes begin with those of at most one list of so many types
-pub all-prefix : (ts us : AbiTypes) (xs ys : List ℕ) → count ts ≡ count us → allWellFormed ts ≡ true → allWellFormed us ≡ true → allCodes ts ++ xs ≡ allCodes us ++ ys → (ts ≡ us) × (xs ≡ ys)
+pub all-prefix : (ts : AbiTypes) → ListOnly ts
 all-prefix = every-list TypeOnly ListOnly none-only more-only whole-only
 
 -- a type before others has a code
@@ -55,7 +58,8 @@ cons-some : (t : AbiType) (ts : AbiTypes) → [] ≡ allCodes (cons t ts) → �
 cons-some t ts e = nil≢cons (e ∙ codes-cons t ts)
 
 -- two lists of well-formed types with the same codes are the same
-pub same-codes : (ts us : AbiTypes) → allWellFormed ts ≡ true → allWellFormed us ≡ true → allCodes ts ≡ allCodes us → ts ≡ us
+pub same-codes : (ts us : AbiTypes) → allWellFormed ts ≡ true → allWellFormed us ≡ true → allCodes ts ≡ allCodes us
+    → ts ≡ us
 unfolding codes
 same-codes nil nil h i e = refl
 same-codes nil (cons u us) h i e = absurd (cons-some u us e)

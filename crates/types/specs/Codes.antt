@@ -1,5 +1,4 @@
 -- The codes of a type: "5 array (its element follows), .. 16384 + n a tuple of n types that follow (n at least 2)".
--- Assumes nothing.
 use Prim.Native.Nat.{ℕ, _+_, _≤_}
 use mathlib.Core.List.{List, [], _∷_, _++_}
 use mathlib.Core.Bool.{true}

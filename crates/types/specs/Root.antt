@@ -1,4 +1,4 @@
--- A type as its first code and the types that follow it. Assumes nothing.
+-- A type as its first code and the types that follow it: words of the laws; no outcome is written with them.
 use Prim.Native.Nat.{ℕ, _+_}
 use Rattle.limits.specs.Codes as code
 use Rattle.names.specs.Elementary.{codeOf}

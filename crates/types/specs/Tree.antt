@@ -1,6 +1,5 @@
 -- Types as trees, by the ABI specification's section "Types", as far as document 01 has codes for them: no arrays of
--- fixed length, no fixed-point numbers,
--- no function, and no tuples of fewer than two types. Assumes nothing.
+-- fixed length, no fixed-point numbers, no function, and no tuples of fewer than two types.
 use Prim.Native.Nat.{ℕ, suc, max}
 use mathlib.Core.Bool.{Bool, true, _&&_}
 use lib.Dec.{leb}

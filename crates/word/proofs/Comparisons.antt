@@ -1,5 +1,5 @@
 -- Comparing words limb by limb. A law is of one limb x below the number X of the limbs above it, so that it serves at
--- each limb. Assumes nothing.
+-- each limb.
 use mathlib.Core.Path.{_≡_, refl, sym, ap}
 use mathlib.Core.Bool.{Bool, true, false, _&&_, false≢true}
 use Prim.Native.Nat.{ℕ, _+_, _*_, _^_, _<_}

@@ -1,5 +1,4 @@
 -- Array as eight u32 numbers of a list, highest first: what is read, what is written, and that each undoes the other.
--- Assumes nothing.
 use mathlib.Core.Path.{_≡_, refl, sym, ap, _∙_}
 use mathlib.Core.List.{List, _++_}
 use Prim.Native.Nat.{ℕ, suc, _+_, _*_, _/_, _%_, _^_, _≤_, _<_}

@@ -1,5 +1,4 @@
--- "then kept if below 2^32": what `keptOf` gives, and what it says of the number, so that no caller opens it. Assumes
--- nothing.
+-- "then kept if below 2^32": what `keptOf` gives, and what it says of the number, so that no caller opens it.
 use mathlib.Core.Path.{_≡_, refl, sym, _∙_, subst}
 use mathlib.Core.Bool.{Bool, true, false, cond}
 use Prim.Native.Nat.{ℕ, _+_, _*_, _^_, _≤_, _<_}

@@ -1,7 +1,6 @@
 -- Laws of a number in limbs of 64 bits, highest first: which words are the same, sums with a carry, complements, AND,
--- and counts of ones.
--- They go limb by limb, with the limbs above as one number, since `omega` takes no numeral of more than 38 digits.
--- Assumes nothing.
+-- and counts of ones. They go limb by limb, with the limbs above as one number, since `omega` takes no numeral of more
+-- than 38 digits.
 use mathlib.Core.Path.{_≡_, sym, ap, _∙_}
 use Prim.Native.Nat.{ℕ, _+_, _-_, _*_, _%_, _^_, _≤_, _<_}
 use native.Mathlib.Nat.{add-mul, mul-assoc, one-mul, add-zero, zero-mul, zero-add}

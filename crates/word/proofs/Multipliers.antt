@@ -1,4 +1,4 @@
--- What `multiplierOf` says of a multiplier, both ways, so that no caller opens it. Assumes nothing.
+-- What `multiplierOf` says of a multiplier, both ways, so that no caller opens it.
 use mathlib.Core.Path.{_≡_, refl, sym, ap, _∙_, subst}
 use mathlib.Core.Bool.{Bool, true, false, cond, _&&_, false≢true}
 use Prim.Native.Nat.{ℕ, _*_, _/_, _%_, _≤_, _<_}

@@ -1,4 +1,4 @@
--- Powers of two as words, and 2^shift as SHL of 1. Assumes nothing.
+-- Powers of two as words, and 2^shift as SHL of 1.
 use mathlib.Core.Path.{_≡_, sym, ap, _∙_}
 use Prim.Native.Nat.{ℕ, _+_, _-_, _*_, _%_, _^_, _≤_, _<_}
 use native.Mathlib.Nat.{one-mul, mod-eq-of-lt, mul-mod-left}

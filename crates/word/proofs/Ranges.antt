@@ -1,4 +1,4 @@
--- Which bounds name a range. Assumes nothing.
+-- Which bounds name a range.
 use mathlib.Core.Path.{_≡_}
 use mathlib.Core.Logic.{_↔_}
 use mathlib.Core.Bool.{Bool, true, false, and-false}

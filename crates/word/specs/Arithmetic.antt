@@ -1,5 +1,5 @@
 -- Sums and powers of two, after the Yellow Paper, appendix H.2: "All arithmetic is modulo 2^256 unless otherwise
--- noted." Assumes nothing.
+-- noted."
 use Prim.Native.Nat.{ℕ, _+_, _^_, _%_}
 use mathlib.Core.Bool.{cond}
 use lib.Dec.{ltb}

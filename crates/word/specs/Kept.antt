@@ -1,4 +1,4 @@
--- "then kept if below 2^32". Assumes nothing.
+-- "then kept if below 2^32".
 use Prim.Native.Nat.{ℕ, _^_}
 use mathlib.Core.Bool.{cond}
 use lib.Dec.{ltb}

@@ -1,6 +1,6 @@
 -- What a multiplier of a length says: 1 and 2 are told apart (they name bytes and string in the Rust), and "A
--- multiplier is an array mark if it is a
--- multiple of 32 from 32 to 3,168 and the path isn't the root"; the caller asks for the path. Assumes nothing.
+-- multiplier is an array mark if it is a multiple of 32 from 32 to 3,168 and the path isn't the root"; the caller asks
+-- for the path.
 use Prim.Native.Nat.{ℕ, _*_, _/_, _%_}
 use mathlib.Core.Bool.{Bool, cond, _&&_}
 use lib.Dec.{eqb}

@@ -1,4 +1,4 @@
--- "All lent tables are u32 numbers, 256-bit words as eight of them, highest first." Assumes nothing.
+-- "All lent tables are u32 numbers, 256-bit words as eight of them, highest first."
 use Prim.Native.Nat.{ℕ, zero, suc, _+_, _*_, _/_, _%_, _^_}
 use mathlib.Core.List.{List, [], _∷_, _++_}
 use lib.ListN.{getD}

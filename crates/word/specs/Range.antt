@@ -1,4 +1,4 @@
--- The bound of the range rule: "a bound of 1 to 255 inclusive (LT's own bound is one more)". Assumes nothing.
+-- The bound of the range rule: "a bound of 1 to 255 inclusive (LT's own bound is one more)".
 use Prim.Native.Nat.{ℕ, _+_}
 use mathlib.Core.Bool.{Bool, cond}
 use Rattle.limits.specs.Between.{between}

@@ -1,6 +1,5 @@
 -- The number that a word stands for. Yellow Paper, 9.1: "The word size of the machine (and thus size of stack items) is
 -- 256-bit".
--- Assumes nothing.
 use Prim.Native.Nat.{ℕ, _+_, _*_, _^_}
 use Rattle.word.specs.declared.U256.{U256}
 

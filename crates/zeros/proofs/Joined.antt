@@ -1,4 +1,4 @@
--- Numbers joined by OR: zero just where each of them is. Assumes nothing.
+-- Numbers joined by OR: zero just where each of them is.
 use Prim.Native.Nat.{ℕ, _+_, _≤_, _<_}
 use mathlib.Core.Path.{_≡_, refl, sym, ap, _∙_}
 use mathlib.Core.Bool.{Bool, true, false, _&&_, and-false}

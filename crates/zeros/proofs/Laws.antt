@@ -1,4 +1,4 @@
--- What numbers that all pass are, one by one. Assumes nothing.
+-- What numbers that all pass are, one by one.
 use Prim.Native.Nat.{ℕ, zero, suc, _+_, _≤_, _<_}
 use mathlib.Core.Path.{_≡_, refl, sym, ap, _∙_}
 use mathlib.Core.Bool.{Bool, true, false, _&&_, and-eq-true-iff}

@@ -1,4 +1,4 @@
--- Numbers that are all zero. Assumes nothing: these are definitions.
+-- Numbers that are all zero.
 use Prim.Native.Nat.{ℕ, zero, suc, _+_}
 use mathlib.Core.Bool.{Bool, true, _&&_}
 use mathlib.Core.List.{List}

@@ -1,4 +1,4 @@
--- `mask::and_mask_to_type` meets its contract: each return is a case of the definition. Assumes nothing.
+-- `mask::and_mask_to_type` meets its contract: each return is a case of the definition.
 use borrow.Author.Needs.{needs}
 use Rattle.mask.proofs.Names.{name-address, name-uint, name-bytes, name-none}
 use Rattle.mask.proofs.and_mask_to_type.Statement.{statement}

@@ -1,5 +1,4 @@
--- `mask::leading_bytes` meets its contract: leading ff bytes with the rest zero are low ones of the complement. Assumes
--- nothing.
+-- `mask::leading_bytes` meets its contract: leading ff bytes with the rest zero are low ones of the complement.
 use borrow.Author.Needs.{needs}
 use Rattle.word.proofs.Limbs.{value-lt}
 use Rattle.mask.proofs.ByteCounts.{leading-whole, leading-broken}

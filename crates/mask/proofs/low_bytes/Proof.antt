@@ -1,4 +1,4 @@
--- `mask::low_bytes` meets its contract: the run of low ones is in whole bytes, or it is not. Assumes nothing.
+-- `mask::low_bytes` meets its contract: the run of low ones is in whole bytes, or it is not.
 use borrow.Author.Needs.{needs}
 use Rattle.mask.proofs.ByteCounts.{low-whole, low-broken}
 use Rattle.mask.proofs.low_bytes.Statement.{statement}

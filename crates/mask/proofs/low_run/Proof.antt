@@ -1,5 +1,4 @@
--- `mask::low_run` meets its contract: m and m + 1 have no bit in common just where m + 1 is a power of two. Assumes
--- nothing.
+-- `mask::low_run` meets its contract: m and m + 1 have no bit in common just where m + 1 is a power of two.
 use borrow.Author.Needs.{needs}
 use Rattle.word.proofs.Limbs.{value-lt}
 use Rattle.mask.proofs.Runs.{run-of-ones, no-run}

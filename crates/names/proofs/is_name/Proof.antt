@@ -1,4 +1,4 @@
--- `names::is_name`, range by range. Assumes nothing.
+-- `names::is_name`, range by range.
 use borrow.Author.Needs.{needs}
 use Rattle.names.proofs.Ranges.{name-below, name-uint, name-int, name-bytes}
 use Rattle.names.proofs.is_name.Statement.{statement}

@@ -1,4 +1,4 @@
--- `report::close_into`: what is stored for the answer is the text of the outcome. Assumes nothing.
+-- `report::close_into`: what is stored for the answer is the text of the outcome.
 use Rattle.report.proofs.Reporting.{outcome-text}
 use borrow.Author.Needs.{needs}
 use Rattle.report.proofs.close_into.Statement.{statement}

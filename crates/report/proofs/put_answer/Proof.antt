@@ -1,4 +1,4 @@
--- `report::put_answer`, answer by answer. Assumes nothing.
+-- `report::put_answer`, answer by answer.
 use Rattle.report.proofs.Reporting.{report-none, report-over, report-list, report-refused}
 use borrow.Author.Needs.{needs}
 use Rattle.report.proofs.put_answer.Statement.{statement}

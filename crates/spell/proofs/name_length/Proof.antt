@@ -1,7 +1,8 @@
 -- `spell::name_length` meets its contract, name by name; behind the first four each name is a word with a width.
--- Assumes nothing.
 use borrow.Author.Needs.{needs}
-use Rattle.spell.proofs.Spellings.{name-wide, bool-long, address-long, bytes-long, string-long, uint-long, int-long, fixed-long}
+use Rattle.names.proofs.Codes.{name-wide}
+use Rattle.spell.proofs.Spellings.{eight-long, bool-long, address-long, bytes-long, string-long, uint-long}
+use Rattle.spell.proofs.Spellings.{int-long, fixed-long}
 use Rattle.spell.proofs.name_length.Statement.{statement}
 use Rattle.spell.proofs.name_length.Tie as tie
 
@@ -16,10 +17,10 @@ name-length-spec =
     (λ c. search (name-wide, needs))
     (λ c κs. search needs)
     (λ c. search needs)
-    (λ c. search (uint-long, name-wide, needs))
+    (λ c. search (uint-long, name-wide, eight-long, needs))
     (λ c κs. search needs)
     (λ c. search needs)
-    (λ c. search (int-long, needs))
+    (λ c. search (int-long, eight-long, needs))
     (λ c κs. search needs)
     (λ c. search needs)
-    (λ c. search (fixed-long, needs)))
+    (λ c. search (fixed-long, eight-long, needs)))

@@ -1,6 +1,6 @@
--- `spell::put_sized` meets its contract: two runs of stores, one behind the other. Assumes nothing.
+-- `spell::put_sized` meets its contract: two runs of stores, one behind the other.
 use borrow.Author.Needs.{needs}
-use Rattle.spell.proofs.Stores.{sets-both}
+use Rattle.spell.proofs.Stores.{stored-both}
 use Rattle.spell.proofs.put_sized.Statement.{statement}
 use Rattle.spell.proofs.put_sized.Tie as tie
 
@@ -11,4 +11,4 @@ put-sized-spec =
     (λ c κs. search needs)
     (λ c κs. search needs)
     (λ c. search needs)
-    (λ c. search (sets-both, needs)))
+    (λ c. search (stored-both, needs)))

@@ -1,7 +1,7 @@
--- `table_vectors::answer` puts question 2 where question 1 is taken. Assumes nothing.
+-- `table_vectors::answer` puts question 2 where question 1 is taken.
 use mathlib.Core.Path.{sym, _∙_}
 use borrow.Author.Needs.{needs}
-use Rattle.facts.proofs.Counts.{count-counted}
+use Rattle.facts.proofs.Counts.{answer-is, count-counted}
 use Rattle.table_vectors.proofs.answer.Statement.{statement}
 use Rattle.table_vectors.proofs.answer.Tie as tie
 
@@ -26,7 +26,7 @@ returns c = search needs
 is-sound-requires : tie.Need-is-sound-requires
 is-sound-requires c κs =
     let known = c .before in
-    count-counted _ _ (sym (known .before .before .record-count .ensures) ∙ known .records .given .1)
+    count-counted _ _ (sym (answer-is _ _ (known .before .before .record-count .ensures)) ∙ known .records .given .1)
 
 slice-aggregate-put-2 : tie.Need-slice-aggregate-put-2
 slice-aggregate-put-2 c = search needs

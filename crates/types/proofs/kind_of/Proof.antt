@@ -1,4 +1,4 @@
--- `types::kind_of`, by the tests of `kindOf`. Assumes nothing.
+-- `types::kind_of`, by the tests of `kindOf`.
 use borrow.Author.Needs.{needs}
 use Rattle.types.proofs.KindLaws.{is-array, is-tuple, is-name, is-unknown}
 use Rattle.types.proofs.kind_of.Statement.{statement}

@@ -1,4 +1,4 @@
--- `zeros::are_zero`: `any` is zero just where the numbers passed are. Assumes nothing.
+-- `zeros::are_zero`: `any` is zero just where the numbers passed are.
 use Prim.Native.Nat.{_-_}
 use borrow.Author.Needs.{needs}
 use Rattle.zeros.proofs.Joined.{Joined, joined-none, joined-more, joined-all}

@@ -1,7 +1,9 @@
--- `arms::by_opcode::arm` meets its contract. Assumes nothing.
+-- `arms::by_opcode::arm` meets its contract.
 use mathlib.Core.Logic.{⊎-elim}
 use borrow.Author.Needs.{needs}
-use Rattle.arms.proofs.ByOpcode.{at-load, at-call, at-add, at-shl, at-mul, at-mstore8, at-shr, at-signed, at-and, at-eq, at-is-zero, at-sign-extend, at-byte, at-mload, at-plain-call, at-compare, apart-low, apart-middle, apart-high}
+use Rattle.arms.proofs.ByOpcode.{at-load, at-call, at-add, at-shl, at-mul, at-mstore8, at-shr, at-signed, at-and}
+use Rattle.arms.proofs.ByOpcode.{at-eq, at-is-zero, at-sign-extend, at-byte, at-mload, at-plain-call, at-compare}
+use Rattle.arms.proofs.ByOpcode.{apart-low, apart-middle, apart-high}
 use Rattle.arms.proofs.by_opcode.arm.Statement.{statement}
 use Rattle.arms.proofs.by_opcode.arm.Tie as tie
 

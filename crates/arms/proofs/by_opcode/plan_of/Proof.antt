@@ -1,4 +1,4 @@
--- `arms::by_opcode::plan_of` meets its contract. Assumes nothing.
+-- `arms::by_opcode::plan_of` meets its contract.
 use borrow.Author.Needs.{needs}
 use Rattle.arms.proofs.Planning.{plan-range, plan-arm}
 use Rattle.arms.proofs.by_opcode.plan_of.Statement.{statement}

@@ -1,4 +1,4 @@
--- `arms::hinting::clear_operand` meets its contract. Assumes nothing.
+-- `arms::hinting::clear_operand` meets its contract.
 use borrow.Author.Needs.{needs}
 use Rattle.labels.proofs.Choosing.{not-arg}
 use Rattle.arms.proofs.HintLaws.{operand-none, operand-arg}

@@ -1,4 +1,4 @@
--- `arms::hinting::clear_operands` meets its contract. Assumes nothing.
+-- `arms::hinting::clear_operands` meets its contract.
 use borrow.Author.Needs.{needs}
 use Rattle.arms.proofs.HintLaws.{clears-none, clears-both}
 use Rattle.arms.proofs.hinting.clear_operands.Statement.{statement}

@@ -1,4 +1,4 @@
--- `arms::hinting::compares_words` meets its contract. Assumes nothing.
+-- `arms::hinting::compares_words` meets its contract.
 use borrow.Author.Needs.{needs}
 use Rattle.arms.proofs.HintLaws.{words, no-words}
 use Rattle.arms.proofs.hinting.compares_words.Statement.{statement}

@@ -1,4 +1,4 @@
--- `arms::hinting::hints_of` meets its contract. Assumes nothing.
+-- `arms::hinting::hints_of` meets its contract.
 use borrow.Author.Needs.{needs}
 use Rattle.arms.proofs.HintLaws.{hints-all, hints-some}
 use Rattle.arms.proofs.hinting.hints_of.Statement.{statement}

@@ -1,4 +1,4 @@
--- `arms::hinting::is_arg` meets its contract. Assumes nothing.
+-- `arms::hinting::is_arg` meets its contract.
 use borrow.Author.Needs.{needs}
 use Rattle.labels.proofs.Choosing.{not-arg}
 use Rattle.arms.proofs.HintLaws.{is-no-arg}

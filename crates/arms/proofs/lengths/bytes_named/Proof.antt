@@ -1,4 +1,4 @@
--- `arms::lengths::bytes_named` meets its contract. Assumes nothing.
+-- `arms::lengths::bytes_named` meets its contract.
 use borrow.Author.Needs.{needs}
 use Rattle.arms.proofs.LengthLaws.{bytes-none, bytes-some}
 use Rattle.arms.proofs.lengths.bytes_named.Statement.{statement}

@@ -1,4 +1,4 @@
--- `arms::lengths::bytes_shift` meets its contract. Assumes nothing.
+-- `arms::lengths::bytes_shift` meets its contract.
 use borrow.Author.Needs.{needs}
 use Rattle.arms.proofs.LengthLaws.{unguarded, shift-lost, shift-small, shift-large, shift-odd, shift-whole}
 use Rattle.arms.proofs.lengths.bytes_shift.Statement.{statement}

@@ -1,4 +1,4 @@
--- `arms::lengths::compare` meets its contract. Assumes nothing.
+-- `arms::lengths::compare` meets its contract.
 use borrow.Author.Needs.{needs}
 use Rattle.analyze.proofs.Reach.{given-choice}
 use Rattle.arms.proofs.LengthLaws.{compare-less, compare-more}

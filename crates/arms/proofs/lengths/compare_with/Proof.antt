@@ -1,4 +1,4 @@
--- `arms::lengths::compare_with` meets its contract. Assumes nothing.
+-- `arms::lengths::compare_with` meets its contract.
 use borrow.Author.Needs.{needs}
 use Rattle.labels.proofs.Choosing.{not-arg}
 use Rattle.arms.proofs.LengthLaws.{compared-none, compared-length, compared-other}

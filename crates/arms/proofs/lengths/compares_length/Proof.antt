@@ -1,4 +1,4 @@
--- `arms::lengths::compares_length` meets its contract. Assumes nothing.
+-- `arms::lengths::compares_length` meets its contract.
 use borrow.Author.Needs.{needs}
 use Rattle.arms.proofs.LengthLaws.{compares-is}
 use Rattle.arms.proofs.lengths.compares_length.Tie as tie

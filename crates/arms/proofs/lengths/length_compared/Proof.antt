@@ -1,4 +1,4 @@
--- `arms::lengths::length_compared` meets its contract. Assumes nothing.
+-- `arms::lengths::length_compared` meets its contract.
 use borrow.Author.Needs.{needs}
 use Rattle.arms.proofs.LengthLaws.{length-word, length-kept}
 use Rattle.arms.proofs.lengths.length_compared.Statement.{statement}

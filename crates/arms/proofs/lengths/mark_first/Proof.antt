@@ -1,4 +1,4 @@
--- `arms::lengths::mark_first` meets its contract. Assumes nothing.
+-- `arms::lengths::mark_first` meets its contract.
 use borrow.Author.Needs.{needs}
 use Rattle.analyze.proofs.Reach.{chosen-reaches}
 use Rattle.arms.proofs.LengthLaws.{first-none, first-some}

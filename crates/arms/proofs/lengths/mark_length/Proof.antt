@@ -1,4 +1,4 @@
--- `arms::lengths::mark_length` meets its contract. Assumes nothing.
+-- `arms::lengths::mark_length` meets its contract.
 use borrow.Author.Needs.{needs}
 use Rattle.labels.proofs.Choosing.{not-arg}
 use Rattle.arms.proofs.LengthLaws.{length-alone, length-beside}

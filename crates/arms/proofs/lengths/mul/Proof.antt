@@ -1,4 +1,4 @@
--- `arms::lengths::mul` meets its contract. Assumes nothing.
+-- `arms::lengths::mul` meets its contract.
 use borrow.Author.Needs.{needs}
 use Rattle.analyze.proofs.Reach.{given-choice, chosen-reaches}
 use Rattle.arms.proofs.LengthLaws.{mul-general, mul-length}

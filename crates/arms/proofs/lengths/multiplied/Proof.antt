@@ -1,4 +1,4 @@
--- `arms::lengths::multiplied` meets its contract. Assumes nothing.
+-- `arms::lengths::multiplied` meets its contract.
 use borrow.Author.Needs.{needs}
 use Rattle.arms.proofs.LengthLaws.{count-most, says-bytes, says-string, says-array, says-nothing}
 use Rattle.arms.proofs.lengths.multiplied.Statement.{statement}

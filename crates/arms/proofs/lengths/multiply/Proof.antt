@@ -1,4 +1,4 @@
--- `arms::lengths::multiply` meets its contract. Assumes nothing.
+-- `arms::lengths::multiply` meets its contract.
 use borrow.Author.Needs.{needs}
 use Rattle.arms.proofs.LengthLaws.{multiply-root, multiply-below}
 use Rattle.arms.proofs.lengths.multiply.Statement.{statement}

@@ -1,4 +1,4 @@
--- `arms::lengths::name_path` meets its contract. Assumes nothing.
+-- `arms::lengths::name_path` meets its contract.
 use borrow.Author.Needs.{needs}
 use Rattle.arms.proofs.LengthLaws.{path-named}
 use Rattle.arms.proofs.lengths.name_path.Statement.{statement}

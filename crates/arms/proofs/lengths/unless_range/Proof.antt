@@ -1,4 +1,4 @@
--- `arms::lengths::unless_range` meets its contract. Assumes nothing.
+-- `arms::lengths::unless_range` meets its contract.
 use borrow.Author.Needs.{needs}
 use Rattle.arms.proofs.LengthLaws.{ranged, unranged}
 use Rattle.arms.proofs.lengths.unless_range.Statement.{statement}

@@ -1,4 +1,4 @@
--- `arms::loads::followed` meets its contract. Assumes nothing.
+-- `arms::loads::followed` meets its contract.
 use borrow.Author.Needs.{needs}
 use Rattle.arms.proofs.LoadLaws.{to-stack, to-memory}
 use Rattle.arms.proofs.loads.followed.Statement.{statement}

@@ -1,4 +1,4 @@
--- `arms::loads::found` meets its contract. Assumes nothing.
+-- `arms::loads::found` meets its contract.
 use borrow.Author.Needs.{needs}
 use Rattle.arms.proofs.LoadLaws.{found-stack, found-memory}
 use Rattle.arms.proofs.loads.found.Statement.{statement}

@@ -1,4 +1,4 @@
--- `arms::loads::is_whole_word` meets its contract. Assumes nothing.
+-- `arms::loads::is_whole_word` meets its contract.
 use Rattle.arms.proofs.LoadLaws.{whole-below, whole-from}
 use Rattle.arms.proofs.loads.is_whole_word.Statement.{statement}
 use Rattle.arms.proofs.loads.is_whole_word.Tie as tie

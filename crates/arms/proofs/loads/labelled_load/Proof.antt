@@ -1,4 +1,4 @@
--- `arms::loads::labelled_load` meets its contract. Assumes nothing.
+-- `arms::loads::labelled_load` meets its contract.
 use borrow.Author.Needs.{needs}
 use Rattle.arms.proofs.LoadLaws.{whole-so, load-whole, load-other}
 use Rattle.arms.proofs.loads.labelled_load.Statement.{statement}

@@ -1,4 +1,4 @@
--- `arms::loads::name_copied` meets its contract. Assumes nothing.
+-- `arms::loads::name_copied` meets its contract.
 use borrow.Author.Needs.{needs}
 use Rattle.arms.proofs.LoadLaws.{copied-none, copied-some}
 use Rattle.arms.proofs.loads.name_copied.Statement.{statement}

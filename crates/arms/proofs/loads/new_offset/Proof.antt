@@ -1,4 +1,4 @@
--- `arms::loads::new_offset` meets its contract. Assumes nothing.
+-- `arms::loads::new_offset` meets its contract.
 use native.Mathlib.Omega.{arith}
 use borrow.Author.Needs.{needs}
 use Rattle.arms.proofs.LoadLaws.{whole-least, few-arrays, offset-first, offset-kept, offset-taken}

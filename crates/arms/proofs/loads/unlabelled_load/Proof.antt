@@ -1,4 +1,4 @@
--- `arms::loads::unlabelled_load` meets its contract. Assumes nothing.
+-- `arms::loads::unlabelled_load` meets its contract.
 use borrow.Author.Needs.{needs}
 use Rattle.arms.proofs.LoadLaws.{offset-lost, offset-below, offset-above, offset-followed}
 use Rattle.arms.proofs.loads.unlabelled_load.Statement.{statement}

@@ -1,4 +1,4 @@
--- `arms::naming::and` meets its contract. Assumes nothing.
+-- `arms::naming::and` meets its contract.
 use borrow.Author.Needs.{needs}
 use Rattle.arms.proofs.NamingLaws.{and-none, and-chosen}
 use Rattle.arms.proofs.naming.and.Statement.{statement}

@@ -1,4 +1,4 @@
--- `arms::naming::byte` meets its contract. Assumes nothing.
+-- `arms::naming::byte` meets its contract.
 use borrow.Author.Needs.{needs}
 use Rattle.labels.proofs.Choosing.{not-arg}
 use Rattle.arms.proofs.NamingLaws.{byte-none, byte-arg}

@@ -1,4 +1,4 @@
--- `arms::naming::eq` meets its contract. Assumes nothing.
+-- `arms::naming::eq` meets its contract.
 use borrow.Author.Needs.{needs}
 use Rattle.labels.proofs.Choosing.{not-arg}
 use Rattle.arms.proofs.NamingLaws.{eq-none, eq-one, eq-two}

@@ -1,4 +1,4 @@
--- `arms::naming::eq_both` meets its contract. Assumes nothing.
+-- `arms::naming::eq_both` meets its contract.
 use borrow.Author.Needs.{needs}
 use Rattle.arms.proofs.NamingLaws.{first-plain, second-plain, both-masked}
 use Rattle.arms.proofs.naming.eq_both.Statement.{statement}

@@ -1,4 +1,4 @@
--- `arms::naming::eq_masked` meets its contract. Assumes nothing.
+-- `arms::naming::eq_masked` meets its contract.
 use borrow.Author.Needs.{needs}
 use borrow.Author.Tests.{not-true, not-false}
 use Rattle.arms.proofs.NamingLaws.{no-mask, another, typed}

@@ -1,4 +1,4 @@
--- `arms::naming::is_zero` meets its contract. Assumes nothing.
+-- `arms::naming::is_zero` meets its contract.
 use borrow.Author.Needs.{needs}
 use Rattle.arms.proofs.NamingLaws.{zero-unlabelled, zero-call-data, zero-arg, zero-division, zero-twice}
 use Rattle.arms.proofs.naming.is_zero.Statement.{statement}

@@ -1,4 +1,4 @@
--- `arms::naming::masked` meets its contract. Assumes nothing.
+-- `arms::naming::masked` meets its contract.
 use borrow.Author.Needs.{needs}
 use Rattle.arms.proofs.NamingLaws.{mask-none, mask-some}
 use Rattle.arms.proofs.naming.masked.Statement.{statement}

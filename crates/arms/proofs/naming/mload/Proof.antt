@@ -1,4 +1,4 @@
--- `arms::naming::mload` meets its contract. Assumes nothing.
+-- `arms::naming::mload` meets its contract.
 use borrow.Author.Needs.{needs}
 use Rattle.labels.proofs.Choosing.{not-arg}
 use Rattle.arms.proofs.NamingLaws.{mload-none, mload-arg}

@@ -1,4 +1,4 @@
--- `arms::naming::mstore8` meets its contract. Assumes nothing.
+-- `arms::naming::mstore8` meets its contract.
 use borrow.Author.Needs.{needs}
 use Rattle.labels.proofs.Choosing.{not-arg}
 use Rattle.arms.proofs.NamingLaws.{mstore8-none, mstore8-arg}

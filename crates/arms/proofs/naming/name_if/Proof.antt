@@ -1,4 +1,4 @@
--- `arms::naming::name_if` meets its contract. Assumes nothing.
+-- `arms::naming::name_if` meets its contract.
 use borrow.Author.Needs.{needs}
 use Rattle.arms.proofs.NamingLaws.{name-none, name-some}
 use Rattle.arms.proofs.naming.name_if.Statement.{statement}

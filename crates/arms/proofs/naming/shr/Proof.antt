@@ -1,4 +1,4 @@
--- `arms::naming::shr` meets its contract. Assumes nothing.
+-- `arms::naming::shr` meets its contract.
 use borrow.Author.Needs.{needs}
 use Rattle.labels.proofs.Choosing.{not-arg}
 use Rattle.arms.proofs.NamingLaws.{shr-none, shr-inactive, shr-unguarded, shr-named}

@@ -1,4 +1,4 @@
--- `arms::naming::sign_extend` meets its contract. Assumes nothing.
+-- `arms::naming::sign_extend` meets its contract.
 use borrow.Author.Needs.{needs}
 use Rattle.labels.proofs.Choosing.{not-arg}
 use Rattle.arms.proofs.NamingLaws.{sign-none, sign-lost, sign-past, sign-named}

@@ -1,4 +1,4 @@
--- `arms::naming::signed` meets its contract. Assumes nothing.
+-- `arms::naming::signed` meets its contract.
 use borrow.Author.Needs.{needs}
 use Rattle.arms.proofs.NamingLaws.{signed-none, signed-chosen}
 use Rattle.arms.proofs.naming.signed.Statement.{statement}

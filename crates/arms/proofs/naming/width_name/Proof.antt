@@ -1,6 +1,7 @@
--- `arms::naming::width_name` meets its contract. Assumes nothing.
+-- `arms::naming::width_name` meets its contract.
 use borrow.Author.Needs.{needs}
-use Rattle.arms.proofs.Shifts.{width-lost, width-one, width-address, width-zero, width-wide, width-odd, width-bytes}
+use Rattle.arms.proofs.Shifts.{width-lost, width-one, width-address, width-zero, width-wide, width-odd}
+use Rattle.arms.proofs.Shifts.{width-bytes}
 use Rattle.arms.proofs.naming.width_name.Tie as tie
 use Rattle.arms.proofs.naming.width_name.Statement.{statement}
 

@@ -1,4 +1,4 @@
--- `arms::ranging::comparison` meets its contract. Assumes nothing.
+-- `arms::ranging::comparison` meets its contract.
 use borrow.Author.Needs.{needs}
 use Rattle.arms.proofs.RangeLaws.{first-none, first-arg, both-labelled, second-none, second-arg}
 use Rattle.labels.proofs.Choosing.{not-arg}

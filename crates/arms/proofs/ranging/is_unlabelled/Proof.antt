@@ -1,4 +1,4 @@
--- `arms::ranging::is_unlabelled` meets its contract. Assumes nothing.
+-- `arms::ranging::is_unlabelled` meets its contract.
 use borrow.Author.Needs.{needs}
 use Rattle.arms.proofs.RangeLaws.{labelled}
 use Rattle.arms.proofs.ranging.is_unlabelled.Statement.{statement}

@@ -1,4 +1,4 @@
--- `arms::ranging::names_range` meets its contract. Assumes nothing.
+-- `arms::ranging::names_range` meets its contract.
 use borrow.Author.Needs.{needs}
 use Rattle.arms.proofs.RangeLaws.{added, masked, lengths, out-of-range, in-range}
 use Rattle.arms.proofs.ranging.names_range.Statement.{statement}

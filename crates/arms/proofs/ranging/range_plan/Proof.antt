@@ -1,4 +1,4 @@
--- `arms::ranging::range_plan` meets its contract. Assumes nothing.
+-- `arms::ranging::range_plan` meets its contract.
 use borrow.Author.Needs.{needs}
 use Rattle.arms.proofs.RangeLaws.{range-none, range-some}
 use Rattle.arms.proofs.ranging.range_plan.Statement.{statement}

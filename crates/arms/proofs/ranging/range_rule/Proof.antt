@@ -1,4 +1,4 @@
--- `arms::ranging::range_rule` meets its contract. Assumes nothing.
+-- `arms::ranging::range_rule` meets its contract.
 use borrow.Author.Needs.{needs}
 use Rattle.arms.proofs.RangeLaws.{rule-inactive, rule-other, rule-none, rule-ranges}
 use Rattle.arms.proofs.ranging.range_rule.Tie as tie

@@ -1,4 +1,4 @@
--- `arms::sums::add` meets its contract. Assumes nothing.
+-- `arms::sums::add` meets its contract.
 use borrow.Author.Needs.{needs}
 use Rattle.labels.proofs.Choosing.{not-arg}
 use Rattle.analyze.proofs.Reach.{arg-reaches}

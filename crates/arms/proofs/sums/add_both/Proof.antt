@@ -1,4 +1,4 @@
--- `arms::sums::add_both` meets its contract. Assumes nothing.
+-- `arms::sums::add_both` meets its contract.
 use borrow.Author.Needs.{needs}
 use Rattle.arms.proofs.SumLaws.{both-added}
 use Rattle.arms.proofs.sums.add_both.Statement.{statement}

@@ -1,4 +1,4 @@
--- `arms::sums::add_constant` meets its contract. Assumes nothing.
+-- `arms::sums::add_constant` meets its contract.
 use borrow.Author.Needs.{needs}
 use Rattle.arms.proofs.SumLaws.{less-one, not-less-one}
 use Rattle.arms.proofs.sums.add_constant.Statement.{statement}

@@ -1,4 +1,4 @@
--- `arms::sums::add_one` meets its contract. Assumes nothing.
+-- `arms::sums::add_one` meets its contract.
 use borrow.Author.Needs.{needs}
 use Rattle.arms.proofs.SumLaws.{one-none, one-chosen}
 use Rattle.arms.proofs.sums.add_one.Statement.{statement}

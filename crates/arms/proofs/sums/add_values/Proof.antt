@@ -1,4 +1,4 @@
--- `arms::sums::add_values` meets its contract. Assumes nothing.
+-- `arms::sums::add_values` meets its contract.
 use mathlib.Core.Path.{sym}
 use borrow.Author.Needs.{needs}
 use Rattle.word.proofs.Keeping.{number-kept, nothing-kept}

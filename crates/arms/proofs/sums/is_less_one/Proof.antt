@@ -1,4 +1,4 @@
--- `arms::sums::is_less_one` meets its contract. Assumes nothing.
+-- `arms::sums::is_less_one` meets its contract.
 use borrow.Author.Needs.{needs}
 use Rattle.arms.proofs.SumLaws.{less-one-is}
 use Rattle.arms.proofs.sums.is_less_one.Tie as tie

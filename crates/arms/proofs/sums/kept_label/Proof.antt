@@ -1,4 +1,4 @@
--- `arms::sums::kept_label` meets its contract. Assumes nothing.
+-- `arms::sums::kept_label` meets its contract.
 use borrow.Author.Needs.{needs}
 use Rattle.arms.proofs.SumLaws.{kept-none, kept-some}
 use Rattle.arms.proofs.sums.kept_label.Statement.{statement}

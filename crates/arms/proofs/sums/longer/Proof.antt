@@ -1,4 +1,4 @@
--- `arms::sums::longer` meets its contract. Assumes nothing.
+-- `arms::sums::longer` meets its contract.
 use borrow.Author.Needs.{needs}
 use Rattle.arms.proofs.SumLaws.{first-longer, second-wins}
 use Rattle.arms.proofs.sums.longer.Statement.{statement}

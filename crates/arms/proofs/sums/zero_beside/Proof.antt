@@ -1,4 +1,4 @@
--- `arms::sums::zero_beside` meets its contract. Assumes nothing.
+-- `arms::sums::zero_beside` meets its contract.
 use borrow.Author.Needs.{needs}
 use Rattle.arms.proofs.SumLaws.{zero-none, zero-some}
 use Rattle.arms.proofs.sums.zero_beside.Statement.{statement}

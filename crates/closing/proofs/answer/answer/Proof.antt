@@ -1,4 +1,4 @@
--- `closing::answer::answer` meets its contract. Assumes nothing.
+-- `closing::answer::answer` meets its contract.
 use Prim.Native.Nat.{suc, _≤_}
 use mathlib.Core.Path.{_≡_}
 use denote.Ref.{now}
@@ -8,7 +8,8 @@ use Rattle.facts.specs.State.{nodes}
 use Rattle.facts.proofs.States.{sound-formed}
 use Rattle.paths.proofs.Frame.{sound-shaped}
 use Rattle.list.specs.Seen.{lastWord}
-use Rattle.closing.proofs.AnswerLaws.{answer-none, answer-over, answer-granted, not-over, entries-most, words-fit}
+use Rattle.closing.proofs.AnswerLaws.{answer-none, answer-over, answer-granted, word-told, entries-most}
+use Rattle.closing.proofs.AnswerLaws.{words-fit}
 use borrow.Author.Needs.{needs}
 use Rattle.closing.proofs.answer.answer.Statement.{statement}
 use Rattle.closing.proofs.answer.answer.Tie as tie
@@ -23,8 +24,7 @@ last c =
     let a = c .before .before in
     let k = a .before .before in
     let e = k .before in
-    k .fits-type-budget .ensures .1
-    (not-over _ _ (now (st c .args .types)) (e .before .is-childless .ensures) (e .if1 .left) _ (k .fits-type-budget .ensures .0) _ (a .budget .given .1))
+    word-told _ _ (now (st c .args .types)) (e .before .is-childless .ensures) (e .if1 .left) _ (k .fits-type-budget .ensures .0) _ (a .budget .given .1) _ (k .fits-type-budget .ensures .1)
 
 most : (c : tie.After-struct-known) → let s = st c in suc (lastWord (nodes (now (s .args .table)) (s .args .used)) 1) ≤ typesRoom
 most c =

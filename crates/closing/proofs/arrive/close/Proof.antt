@@ -1,4 +1,4 @@
--- `closing::arrive::close` meets its contract. Assumes nothing.
+-- `closing::arrive::close` meets its contract.
 use denote.Ref.{now}
 use borrow.Author.Needs.{needs}
 use Rattle.head.proofs.Asking.{records-so}

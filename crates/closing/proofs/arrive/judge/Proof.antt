@@ -1,4 +1,4 @@
--- `closing::arrive::judge` meets its contract. Assumes nothing.
+-- `closing::arrive::judge` meets its contract.
 use denote.Ref.{now}
 use Rattle.paths.proofs.Frame.{sound-shaped}
 use Rattle.head.proofs.Asking.{admitted-count, admitted-sound}

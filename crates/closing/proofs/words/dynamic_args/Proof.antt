@@ -1,10 +1,11 @@
--- `closing::words::dynamic_args` meets its contract. Assumes nothing.
+-- `closing::words::dynamic_args` meets its contract.
 use native.Mathlib.Omega.{arith}
 use mathlib.Core.Logic.{⊎-elim}
 use Rattle.facts.specs.Table.{keyOf}
 use Rattle.paths.proofs.Walk.{left as keys-left}
 use Rattle.paths.proofs.Tail.{has-field, key-fits, next-less, tail-kid}
-use Rattle.closing.proofs.WordLaws.{Seeking, seeking-start, seeking-second, seeking-first, seeking-next, seeking-done}
+use Rattle.closing.proofs.WordLaws.{Seeking, seeking-start, seeking-second, seeking-first, seeking-next}
+use Rattle.closing.proofs.WordLaws.{seeking-done}
 use Rattle.closing.proofs.words.dynamic_args.Statement.{statement}
 use Rattle.closing.proofs.words.dynamic_args.Tie as tie
 

@@ -1,4 +1,4 @@
--- `closing::words::fill_words` meets its contract. Assumes nothing.
+-- `closing::words::fill_words` meets its contract.
 use denote.Ref.{now}
 use Rattle.closing.proofs.WordLaws.{fill-none, fill-some}
 use borrow.Author.Needs.{needs}

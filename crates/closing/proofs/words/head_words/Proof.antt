@@ -1,4 +1,4 @@
--- `closing::words::head_words` meets its contract. Assumes nothing.
+-- `closing::words::head_words` meets its contract.
 use native.Mathlib.Omega.{arith}
 use Rattle.closing.proofs.WordLaws.{head-all, head-many, head-other, head-none, head-less, met-used}
 use borrow.Author.Needs.{needs}

@@ -1,4 +1,4 @@
--- `closing::words::is_bare_array` meets its contract. Assumes nothing.
+-- `closing::words::is_bare_array` meets its contract.
 use Rattle.closing.proofs.WordLaws.{bare-is}
 use borrow.Author.Needs.{needs}
 use Rattle.closing.proofs.words.is_bare_array.Statement.{statement}

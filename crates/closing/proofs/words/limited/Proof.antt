@@ -1,4 +1,4 @@
--- `closing::words::limited` meets its contract. Assumes nothing.
+-- `closing::words::limited` meets its contract.
 use Rattle.closing.proofs.WordLaws.{limit-some, limit-none}
 use Rattle.closing.proofs.words.limited.Statement.{statement}
 use Rattle.closing.proofs.words.limited.Tie as tie

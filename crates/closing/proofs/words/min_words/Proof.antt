@@ -1,4 +1,4 @@
--- `closing::words::min_words` meets its contract. Assumes nothing.
+-- `closing::words::min_words` meets its contract.
 use denote.Ref.{now}
 use Rattle.closing.proofs.WordLaws.{min-direct, min-packed}
 use borrow.Author.Needs.{needs}

@@ -1,4 +1,4 @@
--- `closing::words::packed_words` meets its contract. Assumes nothing.
+-- `closing::words::packed_words` meets its contract.
 use Rattle.closing.proofs.WordLaws.{packed-read}
 use borrow.Author.Needs.{needs}
 use Rattle.closing.proofs.words.packed_words.Statement.{statement}

@@ -1,4 +1,4 @@
--- `code::bytes::byte_is`, past the end and inside the code. Assumes nothing.
+-- `code::bytes::byte_is`, past the end and inside the code.
 use borrow.Author.Needs.{needs}
 use Rattle.code.proofs.Places.{is-in, is-past}
 use Rattle.code.proofs.bytes.byte_is.Statement.{statement}

@@ -1,4 +1,4 @@
--- `code::bytes::number_at`: after i bytes the number is that of the first i. Assumes nothing.
+-- `code::bytes::number_at`: after i bytes the number is that of the first i.
 use mathlib.Core.Path.{refl}
 use Prim.Native.Nat.{_+_, _-_, _<_}
 use native.Mathlib.Omega.{arith}

@@ -1,4 +1,4 @@
--- `code::bytes::past_byte`, whether the byte stands there or not. Assumes nothing.
+-- `code::bytes::past_byte`, whether the byte stands there or not.
 use borrow.Author.Needs.{needs}
 use Rattle.code.proofs.Places.{past-yes, past-no}
 use Rattle.code.proofs.bytes.past_byte.Statement.{statement}

@@ -1,4 +1,4 @@
--- `code::bytes::push_size_at`, past the end and inside the code. Assumes nothing.
+-- `code::bytes::push_size_at`, past the end and inside the code.
 use borrow.Author.Needs.{needs}
 use Rattle.code.proofs.Places.{push-in, push-past}
 use Rattle.code.proofs.bytes.push_size_at.Statement.{statement}

@@ -1,4 +1,4 @@
--- `code::dense::dense_min_calldata_words` meets its contract. Assumes nothing.
+-- `code::dense::dense_min_calldata_words` meets its contract.
 use borrow.Author.Needs.{needs}
 use Rattle.code.proofs.Denses.{dense-words}
 use Rattle.code.proofs.dense.dense_min_calldata_words.Statement.{statement}

@@ -1,4 +1,4 @@
--- `code::dense::dense_min_size`: no shape, another mask, or the packed word under it. Assumes nothing.
+-- `code::dense::dense_min_size`: no shape, another mask, or the packed word under it.
 use borrow.Author.Needs.{needs}
 use Rattle.code.proofs.Denses.{dense-unshaped, dense-other, dense-is, shape-inside, shape-least, shape-most}
 use Rattle.code.proofs.dense.dense_min_size.Statement.{statement}

@@ -1,4 +1,4 @@
--- `code::dense::is_dense` meets its contract. Assumes nothing.
+-- `code::dense::is_dense` meets its contract.
 use borrow.Author.Needs.{needs}
 use Rattle.code.proofs.Denses.{shape-is}
 use Rattle.code.proofs.dense.is_dense.Statement.{statement}

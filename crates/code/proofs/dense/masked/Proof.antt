@@ -1,4 +1,4 @@
--- `code::dense::masked`: a mask below 2^32 meets the lowest limb alone. Assumes nothing.
+-- `code::dense::masked`: a mask below 2^32 meets the lowest limb alone.
 use borrow.Author.Needs.{needs}
 use Rattle.code.proofs.Denses.{masked-fits, masked-law}
 use Rattle.code.proofs.dense.masked.Statement.{statement}

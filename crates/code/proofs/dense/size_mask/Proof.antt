@@ -1,4 +1,4 @@
--- `code::dense::size_mask`, size by size. Assumes nothing.
+-- `code::dense::size_mask`, size by size.
 use borrow.Author.Needs.{needs}
 use Rattle.code.proofs.Denses.{mask-1, mask-2, mask-3}
 use Rattle.code.proofs.dense.size_mask.Statement.{statement}

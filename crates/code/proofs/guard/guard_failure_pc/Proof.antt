@@ -1,4 +1,4 @@
--- `code::guard::guard_failure_pc`: no jump, behind it, or to its target. Assumes nothing.
+-- `code::guard::guard_failure_pc`: no jump, behind it, or to its target.
 use borrow.Author.Needs.{needs}
 use Rattle.code.proofs.Guards.{guard-absent, guard-next, guard-target}
 use Rattle.code.proofs.guard.guard_failure_pc.Statement.{statement}

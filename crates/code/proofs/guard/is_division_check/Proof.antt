@@ -1,4 +1,4 @@
--- `code::guard::is_division_check`: no jump, or the two bytes at its target. Assumes nothing.
+-- `code::guard::is_division_check`: no jump, or the two bytes at its target.
 use borrow.Author.Needs.{needs}
 use Rattle.code.proofs.Guards.{division-absent, division-to}
 use Rattle.code.proofs.guard.is_division_check.Statement.{statement}

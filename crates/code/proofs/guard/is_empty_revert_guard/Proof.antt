@@ -1,4 +1,4 @@
--- `code::guard::is_empty_revert_guard`: no place, one past the end, or the part from it on. Assumes nothing.
+-- `code::guard::is_empty_revert_guard`: no place, one past the end, or the part from it on.
 use borrow.Author.Needs.{needs}
 use Rattle.code.proofs.Guards.{revert-nowhere, revert-past, revert-at}
 use Rattle.code.proofs.guard.is_empty_revert_guard.Statement.{statement}

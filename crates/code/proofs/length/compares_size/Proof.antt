@@ -1,4 +1,4 @@
--- `code::length::compares_size` meets its contract. Assumes nothing.
+-- `code::length::compares_size` meets its contract.
 use borrow.Author.Needs.{needs}
 use Rattle.code.proofs.Lengths.{compares}
 use Rattle.code.proofs.length.compares_size.Statement.{statement}

@@ -1,4 +1,4 @@
--- `code::length::direct_min_calldata_words` meets its contract. Assumes nothing.
+-- `code::length::direct_min_calldata_words` meets its contract.
 use borrow.Author.Needs.{needs}
 use Rattle.code.proofs.Lengths.{direct-words}
 use Rattle.code.proofs.length.direct_min_calldata_words.Statement.{statement}

@@ -1,4 +1,4 @@
--- `code::length::direct_min_size`: nothing pushed, no comparison, or the number. Assumes nothing.
+-- `code::length::direct_min_size`: nothing pushed, no comparison, or the number.
 use borrow.Author.Needs.{needs}
 use Rattle.code.proofs.Lengths.{direct-unpushed, direct-untested, direct-chosen, direct-inside}
 use Rattle.code.proofs.length.direct_min_size.Statement.{statement}

@@ -1,4 +1,4 @@
--- `code::length::words_of`, case by case. Assumes nothing.
+-- `code::length::words_of`, case by case.
 use borrow.Author.Needs.{needs}
 use Rattle.code.proofs.Lengths.{words-unread, words-short, words-uneven, words-count}
 use Rattle.code.proofs.length.words_of.Statement.{statement}

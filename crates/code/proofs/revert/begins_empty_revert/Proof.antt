@@ -1,4 +1,4 @@
--- `code::revert::begins_empty_revert`: one of the six. Assumes nothing.
+-- `code::revert::begins_empty_revert`: one of the six.
 use borrow.Author.Needs.{needs}
 use Rattle.code.proofs.Reverts.{six}
 use Rattle.code.proofs.revert.begins_empty_revert.Statement.{statement}

@@ -1,4 +1,4 @@
--- `code::revert::begins_with`: the bytes passed were the same. Assumes nothing.
+-- `code::revert::begins_with`: the bytes passed were the same.
 use mathlib.Core.Path.{refl}
 use Prim.Native.Nat.{_-_}
 use borrow.Author.Needs.{needs}

@@ -1,4 +1,4 @@
--- `code::revert::is_empty_revert`: an empty part, one JUMPDEST, or none. Assumes nothing.
+-- `code::revert::is_empty_revert`: an empty part, one JUMPDEST, or none.
 use borrow.Author.Needs.{needs}
 use Rattle.code.proofs.Reverts.{empty-part, past-jumpdest, no-jumpdest}
 use Rattle.code.proofs.revert.is_empty_revert.Statement.{statement}

@@ -1,4 +1,4 @@
--- `code::target::jump_at`: nothing pushed, no JUMPI, or the jump. Assumes nothing.
+-- `code::target::jump_at`: nothing pushed, no JUMPI, or the jump.
 use borrow.Author.Needs.{needs}
 use Rattle.code.proofs.Jumps.{jump-unpushed, jump-untested, jump-chosen, pushed-inside}
 use Rattle.code.proofs.target.jump_at.Statement.{statement}

@@ -1,4 +1,4 @@
--- `facts::fact::are_flags` meets its contract. Assumes nothing.
+-- `facts::fact::are_flags` meets its contract.
 use borrow.Author.Needs.{needs}
 use Rattle.facts.proofs.Tests.{flags-are}
 use Rattle.facts.proofs.fact.are_flags.Statement.{statement}

@@ -1,4 +1,4 @@
--- `facts::fact::is_bare` meets its contract. Assumes nothing.
+-- `facts::fact::is_bare` meets its contract.
 use borrow.Author.Needs.{needs}
 use Rattle.facts.proofs.Tests.{bare-is}
 use Rattle.facts.proofs.fact.is_bare.Statement.{statement}

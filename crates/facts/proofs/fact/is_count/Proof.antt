@@ -1,4 +1,4 @@
--- `facts::fact::is_count` meets its contract. Assumes nothing.
+-- `facts::fact::is_count` meets its contract.
 use borrow.Author.Needs.{needs}
 use Rattle.facts.proofs.Tests.{count-neither, count-dynamic, count-array}
 use Rattle.facts.proofs.fact.is_count.Statement.{statement}

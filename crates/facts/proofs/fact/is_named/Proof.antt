@@ -1,4 +1,4 @@
--- `facts::fact::is_named` meets its contract. Assumes nothing.
+-- `facts::fact::is_named` meets its contract.
 use borrow.Author.Needs.{needs}
 use Rattle.facts.proofs.Tests.{named-none, named-unsure, named-too-sure, named-is}
 use Rattle.facts.proofs.fact.is_named.Statement.{statement}

@@ -1,4 +1,4 @@
--- `facts::fact::is_record` meets its contract. Assumes nothing.
+-- `facts::fact::is_record` meets its contract.
 use borrow.Author.Needs.{needs}
 use Rattle.facts.proofs.Tests.{fact-flags, fact-unseen, fact-count, fact-named}
 use Rattle.facts.proofs.fact.is_record.Statement.{statement}

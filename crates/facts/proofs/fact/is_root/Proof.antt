@@ -1,4 +1,4 @@
--- `facts::fact::is_root` meets its contract. Assumes nothing.
+-- `facts::fact::is_root` meets its contract.
 use borrow.Author.Needs.{needs}
 use Rattle.facts.proofs.Tests.{root-is}
 use Rattle.facts.proofs.fact.is_root.Statement.{statement}

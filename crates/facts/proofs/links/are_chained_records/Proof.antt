@@ -1,4 +1,4 @@
--- `facts::links::are_chained_records` meets its contract: `Added` holds before each record. Assumes nothing.
+-- `facts::links::are_chained_records` meets its contract: `Added` holds before each record.
 use Prim.Native.Nat.{ℕ, _+_, _-_, _^_, _≤_, _<_}
 use mathlib.Core.Path.{_≡_, refl, sym, _∙_}
 use mathlib.Core.Bool.{true, true≢false}
@@ -8,12 +8,14 @@ use denote.Ref.{now}
 use borrow.Author.Needs.{needs}
 use borrow.Author.Tests.{not-true, not-false}
 use Rattle.limits.specs.Limits.{recordWidth}
-use Rattle.facts.specs.Table.{HasRecord, Has, parentOf, childOf, nextOf}
+use Rattle.facts.specs.Table.{parentOf, childOf, nextOf}
+use Rattle.facts.specs.Access.{HasRecord, Has}
 use Rattle.facts.specs.State.{nodeAt}
-use Rattle.facts.specs.Fact.{isRecord}
+use Rattle.facts.specs.Checks.{isRecord}
 use Rattle.facts.specs.Weights.{Under, Leads, weight, linkTo, weightEnd}
 use Rattle.facts.proofs.Weights.{led, not-led}
-use Rattle.facts.proofs.Check.{Added, Fits, added-start, added-more, told, onward, chained-child, chained-next, chained-under}
+use Rattle.facts.proofs.Check.{Added, Fits, added-start, added-more, told, onward, chained-child, chained-next}
+use Rattle.facts.proofs.Check.{chained-under}
 use Rattle.facts.proofs.links.are_chained_records.Statement.{statement}
 use Rattle.facts.proofs.links.are_chained_records.Tie as tie
 
@@ -47,7 +49,7 @@ there c =
     record { from = omega arith; within = omega arith }
 
 has : (c : Turn) (f : ℕ) → f < recordWidth → Has (T c) (R c) f
-has c f l = let h = there c in record { from = h .from; within = h .within; one = l }
+has c f l = let h = there c in record { from = h .from; within = h .within; field = l }
 
 -- behind each of the four tests, and from each to the one before
 abbrev Else1 : Type 0

@@ -1,4 +1,4 @@
--- `facts::links::is_under` meets its contract: each test that fails contradicts its part of `Under`. Assumes nothing.
+-- `facts::links::is_under` meets its contract: each test that fails contradicts its part of `Under`.
 use native.Mathlib.Omega.{arith}
 use borrow.Author.Needs.{needs}
 use Rattle.facts.proofs.links.is_under.Statement.{statement}

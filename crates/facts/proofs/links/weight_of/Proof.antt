@@ -1,4 +1,4 @@
--- `facts::links::weight_of` meets its contract. Assumes nothing.
+-- `facts::links::weight_of` meets its contract.
 use borrow.Author.Needs.{needs}
 use Rattle.facts.specs.Weights.{weight}
 use Rattle.facts.proofs.links.weight_of.Statement.{statement}

@@ -1,4 +1,4 @@
--- `facts::links::with_link` meets its contract. Assumes nothing.
+-- `facts::links::with_link` meets its contract.
 use borrow.Author.Needs.{needs}
 use native.Mathlib.Omega.{arith}
 use Rattle.facts.proofs.Weights.{lead-none, lead-far, lead-other, lead-low, lead-some}

@@ -1,11 +1,10 @@
--- `facts::sound::is_sound`: each test that fails contradicts its part of `Sound`, and the parts make the whole. Assumes
--- nothing.
+-- `facts::sound::is_sound`: each test that fails contradicts its part of `Sound`, and the parts make the whole.
 use mathlib.Core.Path.{_≡_, sym, _∙_}
 use mathlib.Core.Bool.{true, true≢false}
 use denote.Ref.{now}
 use borrow.Author.Needs.{needs}
 use borrow.Author.Tests.{not-true, not-false}
-use Rattle.facts.specs.Fact.{isRoot}
+use Rattle.facts.specs.Checks.{isRoot}
 use Rattle.facts.proofs.Whole.{sound-chained, sound-root, sound-records, sound-zero, parts-sound}
 use Rattle.facts.proofs.sound.is_sound.Statement.{statement}
 use Rattle.facts.proofs.sound.is_sound.Tie as tie

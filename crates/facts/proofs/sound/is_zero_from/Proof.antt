@@ -1,4 +1,4 @@
--- `facts::sound::is_zero_from`: before each block all numbers passed are zero. Assumes nothing.
+-- `facts::sound::is_zero_from`: before each block all numbers passed are zero.
 use Prim.Native.Nat.{_-_}
 use mathlib.Core.Path.{sym, _∙_}
 use native.Mathlib.Omega.{arith}

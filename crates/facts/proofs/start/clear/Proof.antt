@@ -1,4 +1,4 @@
--- `facts::start::clear`: before place i all is zero. Assumes nothing.
+-- `facts::start::clear`: before place i all is zero.
 use Prim.Native.Nat.{_-_}
 use borrow.Author.Needs.{needs}
 use lib.ListN.{length}

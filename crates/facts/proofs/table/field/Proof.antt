@@ -1,4 +1,4 @@
--- `facts::table::field` meets its contract. Assumes nothing.
+-- `facts::table::field` meets its contract.
 use borrow.Author.Needs.{needs}
 use Rattle.facts.specs.Table.{fld}
 use Rattle.facts.proofs.table.field.Statement.{statement}

@@ -1,6 +1,6 @@
--- `facts::table::set_field` meets its contract. Assumes nothing.
+-- `facts::table::set_field` meets its contract.
 use borrow.Author.Needs.{needs}
-use Rattle.facts.specs.Table.{put}
+use Rattle.facts.specs.Access.{put}
 use Rattle.facts.proofs.table.set_field.Statement.{statement}
 use Rattle.facts.proofs.table.set_field.Tie as tie
 

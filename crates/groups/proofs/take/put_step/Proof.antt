@@ -1,4 +1,4 @@
--- `groups::take::put_step`: the three runs of numbers lie inside a whole group, and are its parts. Assumes nothing.
+-- `groups::take::put_step`: the three runs of numbers lie inside a whole group, and are its parts.
 use mathlib.Core.Path.{refl}
 use Rattle.groups.proofs.Putting.{put-parts}
 use borrow.Author.Needs.{needs}

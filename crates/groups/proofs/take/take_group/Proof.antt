@@ -1,4 +1,4 @@
--- `groups::take::take_group`: bytes that are no group, and the step of a group. Assumes nothing.
+-- `groups::take::take_group`: bytes that are no group, and the step of a group.
 use mathlib.Core.Path.{refl}
 use Rattle.groups.specs.Call.{not-group, step}
 use borrow.Author.Needs.{needs}

@@ -1,5 +1,4 @@
--- `groups::whole::is_group`: no front, counts over the sizes, and as many bytes as they ask for or not. Assumes
--- nothing.
+-- `groups::whole::is_group`: no front, counts over the sizes, and as many bytes as they ask for or not.
 use Rattle.trace.proofs.GroupLaws.{rest-within}
 use Rattle.groups.proofs.Wholes.{short-front, counts-over, as-many}
 use borrow.Author.Needs.{needs}

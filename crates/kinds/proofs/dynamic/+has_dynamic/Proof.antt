@@ -1,11 +1,12 @@
 -- `kinds::dynamic::has_dynamic` meets its contract: `Seeking` holds before each child. The numbers above the record
--- fall. Assumes nothing.
+-- fall.
 use Prim.Native.Nat.{ℕ, _-_, _<_}
 use native.Mathlib.Omega.{arith}
 use Rattle.facts.specs.Table.{keyOf}
 use Rattle.paths.proofs.Walk.{left as keys-left}
 use Rattle.paths.proofs.Tail.{has-field, key-fits, next-less, tail-kid}
-use Rattle.kinds.proofs.DynamicLaws.{Seeking, dynamic-unseen, dynamic-here, seeking-start, seeking-found, seeking-next, seeking-done}
+use Rattle.kinds.proofs.DynamicLaws.{Seeking, dynamic-unseen, dynamic-here, seeking-start, seeking-found}
+use Rattle.kinds.proofs.DynamicLaws.{seeking-next, seeking-done}
 use borrow.Fn.Kinds.{In}
 use borrow.Fn.PlainCycle.{Measures, is, falls, and}
 use Rattle.kinds.proofs.dynamic.has_dynamic.Reads as has-dynamic

@@ -1,5 +1,4 @@
 -- `kinds::filling::fill` meets its contract: `Filling` holds before each word, and the walk goes on behind prev.
--- Assumes nothing.
 use Prim.Native.Nat.{_-_, _*_}
 use mathlib.Core.Path.{refl, sym, _∙_}
 use native.Mathlib.Omega.{arith}

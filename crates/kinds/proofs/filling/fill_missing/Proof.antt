@@ -1,5 +1,5 @@
 -- `kinds::filling::fill_missing` meets its contract: `Lacking` holds before each word, and the walk goes on behind
--- prev. Assumes nothing.
+-- prev.
 use Prim.Native.Nat.{_-_, _*_}
 use mathlib.Core.Path.{refl}
 use native.Mathlib.Omega.{arith}

@@ -1,4 +1,4 @@
--- `kinds::filling::look_after` meets its contract. Assumes nothing.
+-- `kinds::filling::look_after` meets its contract.
 use native.Mathlib.Omega.{arith}
 use Rattle.paths.proofs.Finds.{missing-none, missing-some}
 use Rattle.kinds.proofs.ChainLaws.{before-up, found-before}

@@ -1,4 +1,4 @@
--- `kinds::info::array_at` meets its contract: one law for each way through. Assumes nothing.
+-- `kinds::info::array_at` meets its contract: one law for each way through.
 use mathlib.Core.Logic.{⊎-elim}
 use borrow.Author.Needs.{needs}
 use Rattle.kinds.proofs.KindLaws.{array-on-more, array-on-other, array-on-less}

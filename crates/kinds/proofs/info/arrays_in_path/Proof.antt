@@ -1,5 +1,4 @@
 -- `kinds::info::arrays_in_path` meets its contract: `Upward` holds before each record, and a parent has a lower number.
--- Assumes nothing.
 use mathlib.Core.Logic.{⊎-elim}
 use native.Mathlib.Omega.{arith}
 use borrow.Author.Needs.{needs}

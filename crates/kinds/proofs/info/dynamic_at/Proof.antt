@@ -1,4 +1,4 @@
--- `kinds::info::dynamic_at` meets its contract: one law for each way through. Assumes nothing.
+-- `kinds::info::dynamic_at` meets its contract: one law for each way through.
 use mathlib.Core.Logic.{⊎-elim}
 use borrow.Author.Needs.{needs}
 use Rattle.kinds.proofs.KindLaws.{dynamic-on-array, dynamic-on-more, dynamic-on-other, dynamic-on-less}

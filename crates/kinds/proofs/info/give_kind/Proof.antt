@@ -1,4 +1,4 @@
--- `kinds::info::give_kind` meets its contract. Assumes nothing.
+-- `kinds::info::give_kind` meets its contract.
 use borrow.Author.Needs.{needs}
 use Rattle.kinds.proofs.KindLaws.{given}
 use Rattle.kinds.proofs.info.give_kind.Statement.{statement}

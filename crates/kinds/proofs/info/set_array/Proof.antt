@@ -1,4 +1,4 @@
--- `kinds::info::set_array` meets its contract. Assumes nothing.
+-- `kinds::info::set_array` meets its contract.
 use borrow.Author.Needs.{needs}
 use Rattle.kinds.proofs.KindLaws.{array-root, array-set}
 use Rattle.kinds.proofs.info.set_array.Statement.{statement}

@@ -1,4 +1,4 @@
--- `kinds::info::set_dynamic` meets its contract. Assumes nothing.
+-- `kinds::info::set_dynamic` meets its contract.
 use borrow.Author.Needs.{needs}
 use Rattle.kinds.proofs.KindLaws.{dynamic-root, dynamic-set}
 use Rattle.kinds.proofs.info.set_dynamic.Statement.{statement}

@@ -1,4 +1,4 @@
--- `labels::check::are_slots`: the labels passed are well formed. Assumes nothing.
+-- `labels::check::are_slots`: the labels passed are well formed.
 use lib.ListN.{length}
 use mathlib.Core.Path.{sym, _∙_}
 use Prim.Native.Nat.{ℕ, _+_, _-_, _*_, _/_}

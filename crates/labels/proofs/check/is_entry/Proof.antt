@@ -1,4 +1,4 @@
--- `labels::check::is_entry` meets its contract. Assumes nothing.
+-- `labels::check::is_entry` meets its contract.
 use borrow.Author.Needs.{needs}
 use Rattle.labels.proofs.Tests.{entry-is}
 use Rattle.labels.proofs.check.is_entry.Statement.{statement}

@@ -1,4 +1,4 @@
--- `labels::check::is_label` meets its contract. Assumes nothing.
+-- `labels::check::is_label` meets its contract.
 use borrow.Author.Needs.{needs}
 use Rattle.labels.proofs.Tests.{no-argument, argument}
 use Rattle.labels.proofs.check.is_label.Tie as tie

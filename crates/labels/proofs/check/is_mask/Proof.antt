@@ -1,4 +1,4 @@
--- `labels::check::is_mask` meets its contract. Assumes nothing.
+-- `labels::check::is_mask` meets its contract.
 use borrow.Author.Needs.{needs}
 use Rattle.labels.proofs.Tests.{unmasked, masked}
 use Rattle.labels.proofs.check.is_mask.Statement.{statement}

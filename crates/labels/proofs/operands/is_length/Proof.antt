@@ -1,4 +1,4 @@
--- `labels::operands::is_length` meets its contract. Assumes nothing.
+-- `labels::operands::is_length` meets its contract.
 use borrow.Author.Needs.{needs}
 use Rattle.labels.proofs.Choosing.{length-is}
 use Rattle.labels.proofs.operands.is_length.Tie as tie

@@ -1,4 +1,4 @@
--- `labels::operands::is_length_of` meets its contract. Assumes nothing.
+-- `labels::operands::is_length_of` meets its contract.
 use borrow.Author.Needs.{needs}
 use Rattle.labels.proofs.Choosing.{not-arg, length-of, no-length-of}
 use Rattle.labels.proofs.operands.is_length_of.Tie as tie

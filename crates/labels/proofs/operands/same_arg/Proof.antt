@@ -1,4 +1,4 @@
--- `labels::operands::same_arg` meets its contract. Assumes nothing.
+-- `labels::operands::same_arg` meets its contract.
 use borrow.Author.Needs.{needs}
 use Rattle.labels.proofs.Choosing.{same-is}
 use Rattle.labels.proofs.operands.same_arg.Tie as tie

@@ -1,4 +1,4 @@
--- `labels::read::read_element` meets its contract. Assumes nothing.
+-- `labels::read::read_element` meets its contract.
 use borrow.Author.Needs.{needs}
 use Rattle.labels.proofs.Readings.{element-read}
 use Rattle.labels.proofs.read.read_element.Tie as tie

@@ -1,4 +1,4 @@
--- `labels::read::read_mask` meets its contract. Assumes nothing.
+-- `labels::read::read_mask` meets its contract.
 use borrow.Author.Needs.{needs}
 use Rattle.labels.proofs.Readings.{mask-there, no-mask}
 use Rattle.labels.proofs.read.read_mask.Statement.{statement}

@@ -1,4 +1,4 @@
--- `labels::read::read_val` meets its contract. Assumes nothing.
+-- `labels::read::read_val` meets its contract.
 use borrow.Author.Needs.{needs}
 use Rattle.labels.proofs.Readings.{val-read}
 use Rattle.labels.proofs.read.read_val.Tie as tie

@@ -1,4 +1,4 @@
--- `labels::stack::entry_one` meets its contract. Assumes nothing.
+-- `labels::stack::entry_one` meets its contract.
 use borrow.Author.Needs.{needs}
 use Rattle.labels.proofs.Stacks.{not-changed, changed}
 use Rattle.labels.proofs.stack.entry_one.Statement.{statement}

@@ -1,4 +1,4 @@
--- `labels::stack::memory_ones`: what was passed is changed. Assumes nothing.
+-- `labels::stack::memory_ones`: what was passed is changed.
 use Prim.Native.Nat.{_-_, _/_}
 use lib.ListN.{length}
 use borrow.Author.Needs.{needs}

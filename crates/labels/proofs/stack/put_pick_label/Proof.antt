@@ -1,4 +1,4 @@
--- `labels::stack::put_pick_label` meets its contract. Assumes nothing.
+-- `labels::stack::put_pick_label` meets its contract.
 use borrow.Author.Needs.{needs}
 use Rattle.labels.proofs.Stacks.{no-pick-label, pick-label}
 use Rattle.labels.proofs.stack.put_pick_label.Statement.{statement}

@@ -1,4 +1,4 @@
--- `labels::stack::put_pick_one` meets its contract. Assumes nothing.
+-- `labels::stack::put_pick_one` meets its contract.
 use borrow.Author.Needs.{needs}
 use Rattle.labels.proofs.Stacks.{no-pick-one, pick-one}
 use Rattle.labels.proofs.stack.put_pick_one.Tie as tie

@@ -1,4 +1,4 @@
--- `labels::stack::put_top_label` meets its contract. Assumes nothing.
+-- `labels::stack::put_top_label` meets its contract.
 use borrow.Author.Needs.{needs}
 use Rattle.labels.proofs.Stacks.{top-label}
 use Rattle.labels.proofs.stack.put_top_label.Statement.{statement}

@@ -1,4 +1,4 @@
--- `labels::stack::put_top_word` meets its contract. Assumes nothing.
+-- `labels::stack::put_top_word` meets its contract.
 use borrow.Author.Needs.{needs}
 use Rattle.labels.proofs.Stacks.{top-word}
 use Rattle.labels.proofs.stack.put_top_word.Tie as tie

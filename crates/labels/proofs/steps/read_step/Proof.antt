@@ -1,4 +1,4 @@
--- `labels::steps::read_step` meets its contract. Assumes nothing.
+-- `labels::steps::read_step` meets its contract.
 use borrow.Author.Needs.{needs}
 use Rattle.labels.proofs.Readings.{step-read}
 use Rattle.labels.proofs.steps.read_step.Tie as tie

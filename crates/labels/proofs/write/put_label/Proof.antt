@@ -1,4 +1,4 @@
--- `labels::write::put_label` meets its contract. Assumes nothing.
+-- `labels::write::put_label` meets its contract.
 use borrow.Author.Needs.{needs}
 use Rattle.labels.specs.declared.Label.the-variants.{Unlabelled, CallData, Arg, IsZeroResult}
 use Rattle.labels.proofs.Writings.{label-written}

@@ -1,4 +1,4 @@
--- `labels::write::put_mask` meets its contract. Assumes nothing.
+-- `labels::write::put_mask` meets its contract.
 use lib.ListN.{length, length-set}
 use mathlib.Core.Path.{ap, _∙_}
 use borrow.Author.Needs.{needs}

@@ -1,4 +1,4 @@
--- `labels::write::put_small` meets its contract. Assumes nothing.
+-- `labels::write::put_small` meets its contract.
 use borrow.Author.Needs.{needs}
 use Rattle.labels.proofs.Writings.{small-written}
 use Rattle.labels.proofs.write.put_small.Tie as tie

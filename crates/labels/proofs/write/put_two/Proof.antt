@@ -1,4 +1,4 @@
--- `labels::write::put_two` meets its contract. Assumes nothing.
+-- `labels::write::put_two` meets its contract.
 use lib.ListN.{length-set}
 use native.Mathlib.Omega.{arith}
 use native.Mathlib.Numerals.{add-one}

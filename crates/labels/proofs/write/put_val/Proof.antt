@@ -1,4 +1,4 @@
--- `labels::write::put_val` meets its contract. Assumes nothing.
+-- `labels::write::put_val` meets its contract.
 use borrow.Author.Needs.{needs}
 use Rattle.labels.proofs.Writings.{val-written}
 use Rattle.labels.proofs.write.put_val.Tie as tie

@@ -1,5 +1,5 @@
 -- `list::seen::is_childless` meets its contract: `Looking` holds before each record, with none seen so far. The keys
--- left fall. Assumes nothing.
+-- left fall.
 use mathlib.Core.Path.{refl}
 use native.Mathlib.Omega.{arith}
 use Rattle.facts.specs.Table.{keyOf}

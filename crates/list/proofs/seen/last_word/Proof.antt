@@ -1,4 +1,4 @@
--- `list::seen::last_word` meets its contract. Assumes nothing.
+-- `list::seen::last_word` meets its contract.
 use borrow.Author.Needs.{needs}
 use Rattle.list.proofs.ChildrenLaws.{word-count, word-key}
 use Rattle.list.proofs.seen.last_word.Statement.{statement}

@@ -1,5 +1,5 @@
 -- `list::seen::seen_children` meets its contract: `Looking` holds before each run of the chain and before each record
--- of a run. The keys left fall. Assumes nothing.
+-- of a run. The keys left fall.
 use mathlib.Core.Path.{refl, sym, _∙_}
 use mathlib.Core.Logic.{⊎-elim}
 use native.Mathlib.Omega.{arith}
@@ -7,7 +7,8 @@ use borrow.Author.Needs.{needs}
 use Rattle.facts.specs.Table.{keyOf}
 use Rattle.paths.proofs.Walk.{left as keys-left}
 use Rattle.paths.proofs.Tail.{has-field, key-fits, next-less, tail-kid}
-use Rattle.list.proofs.ChildrenLaws.{Looking, looking-start, looking-fits, looking-seen, looking-unseen, looking-done}
+use Rattle.list.proofs.ChildrenLaws.{Looking, looking-start, looking-fits, looking-seen, looking-unseen}
+use Rattle.list.proofs.ChildrenLaws.{looking-done}
 use Rattle.paths.proofs.RunLaws.{Run, run-start, run-next, run-end}
 use Rattle.list.proofs.seen.seen_children.Statement.{statement}
 use Rattle.list.proofs.seen.seen_children.Tie as tie

@@ -1,17 +1,16 @@
 -- `marks::hint::clear_at` meets its contract: whichever store was made, the record is blocked as the definition says.
--- Assumes nothing.
 use mathlib.Core.Path.{sym, _∙_}
 use mathlib.Core.Logic.{⊎-elim}
 use denote.Ref.{now}
 use borrow.Author.Needs.{needs}
 use Rattle.facts.specs.State.{nodes}
-use Rattle.paths.specs.Holds.{Holds}
+use Rattle.paths.specs.Represents.{Represents}
 use Rattle.marks.proofs.HintLaws.{block-asked, block-stands, clear-kept, clear-dropped, blocks}
 use Rattle.marks.proofs.hint.clear_at.Statement.{statement}
 use Rattle.marks.proofs.hint.clear_at.Tie as tie
 
 stored : (j : tie.Joined1) → let a = j .before .before .before .before .before .before .args in
-    Holds (j .if1 .table) (a .used) (a .n) (blocks (nodes (now (a .table)) (a .used)) (a .r) (a .block))
+    Represents (j .if1 .table) (a .used) (a .n) (blocks (nodes (now (a .table)) (a .used)) (a .r) (a .block))
 stored j =
     let f = j .before in
     let s = f .before .before .before .before .before in

@@ -1,4 +1,4 @@
--- `marks::hint::clear_range_hint` meets its contract. Assumes nothing.
+-- `marks::hint::clear_range_hint` meets its contract.
 use borrow.Author.Needs.{needs}
 use Rattle.marks.proofs.HintLaws.{clear-none, clear-some}
 use Rattle.marks.proofs.hint.clear_range_hint.Statement.{statement}

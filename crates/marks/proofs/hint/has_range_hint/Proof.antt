@@ -1,4 +1,4 @@
--- `marks::hint::has_range_hint` meets its contract. Assumes nothing.
+-- `marks::hint::has_range_hint` meets its contract.
 use borrow.Author.Needs.{needs}
 use Rattle.marks.proofs.HintLaws.{hint-none, hint-told}
 use Rattle.marks.proofs.hint.has_range_hint.Statement.{statement}

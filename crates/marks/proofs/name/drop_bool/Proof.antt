@@ -1,4 +1,4 @@
--- `marks::name::drop_bool` meets its contract. Assumes nothing.
+-- `marks::name::drop_bool` meets its contract.
 use borrow.Author.Needs.{needs}
 use Rattle.marks.proofs.MarkLaws.{drop-held, drop-loose}
 use Rattle.marks.proofs.name.drop_bool.Statement.{statement}

@@ -1,4 +1,4 @@
--- `marks::name::give_name` meets its contract: two stores, one after the other. Assumes nothing.
+-- `marks::name::give_name` meets its contract: two stores, one after the other.
 use borrow.Author.Needs.{needs}
 use Rattle.marks.proofs.NameLaws.{given}
 use Rattle.marks.proofs.name.give_name.Statement.{statement}

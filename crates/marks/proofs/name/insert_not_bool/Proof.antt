@@ -1,4 +1,4 @@
--- `marks::name::insert_not_bool` meets its contract. Assumes nothing.
+-- `marks::name::insert_not_bool` meets its contract.
 use borrow.Author.Needs.{needs}
 use Rattle.marks.proofs.MarkLaws.{marked}
 use Rattle.marks.proofs.name.insert_not_bool.Statement.{statement}

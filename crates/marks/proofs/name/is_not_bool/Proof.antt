@@ -1,4 +1,4 @@
--- `marks::name::is_not_bool` meets its contract. Assumes nothing.
+-- `marks::name::is_not_bool` meets its contract.
 use borrow.Author.Needs.{needs}
 use Rattle.marks.proofs.NameLaws.{not-bool-none, not-bool-some}
 use Rattle.marks.proofs.name.is_not_bool.Statement.{statement}

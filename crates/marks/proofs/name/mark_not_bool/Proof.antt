@@ -1,5 +1,5 @@
 -- `marks::name::mark_not_bool` meets its contract: whether the name was dropped or not, the path is made and unnamed as
--- the definition says. Assumes nothing.
+-- the definition says.
 use mathlib.Core.Logic.{⊎-elim}
 use denote.Ref.{now}
 use native.Mathlib.Omega.{arith}

@@ -1,12 +1,12 @@
 -- `marks::name::name_at` meets its contract: the two tests that an early return stands under are false after it.
--- Assumes nothing.
 use mathlib.Core.Path.{_≡_}
 use mathlib.Core.Bool.{false}
 use mathlib.Core.Logic.{⊎-elim}
 use denote.Ref.{now}
 use borrow.Author.Needs.{needs}
 use Rattle.facts.specs.State.{nodes}
-use Rattle.marks.proofs.NameLaws.{stops, keeps, no-range, no-block, no-name, less-sure, name-stopped, name-kept, name-new}
+use Rattle.marks.proofs.NameLaws.{stops, keeps, no-range, no-block, no-name, less-sure, name-stopped, name-kept}
+use Rattle.marks.proofs.NameLaws.{name-new}
 use Rattle.marks.proofs.name.name_at.Statement.{statement}
 use Rattle.marks.proofs.name.name_at.Tie as tie
 

@@ -1,4 +1,4 @@
--- `marks::name::set_tname` meets its contract. Assumes nothing.
+-- `marks::name::set_tname` meets its contract.
 use mathlib.Core.Path.{_≡_, refl}
 use mathlib.Core.Bool.{false}
 use mathlib.Core.Logic.{⊎-elim}

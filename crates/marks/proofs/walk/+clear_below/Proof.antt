@@ -1,5 +1,4 @@
 -- `marks::walk::clear_below` meets its contract: `Clearing` holds before each child. The numbers above the record fall.
--- Assumes nothing.
 use Prim.Native.Nat.{ℕ, _-_, _<_}
 use mathlib.Core.Path.{sym, _∙_}
 use native.Mathlib.Omega.{arith}

@@ -1,4 +1,4 @@
--- `marks::walk::clear_range_hints` meets its contract: all facts are at the root or below it. Assumes nothing.
+-- `marks::walk::clear_range_hints` meets its contract: all facts are at the root or below it.
 use native.Mathlib.Omega.{arith}
 use borrow.Author.Needs.{needs}
 use Rattle.marks.proofs.WalkLaws.{root-cleared}

@@ -1,4 +1,4 @@
--- `marks::walk::drop_range` meets its contract. Assumes nothing.
+-- `marks::walk::drop_range` meets its contract.
 use borrow.Author.Needs.{needs}
 use Rattle.marks.proofs.WalkLaws.{range-dropped, range-none}
 use Rattle.marks.proofs.walk.drop_range.Statement.{statement}

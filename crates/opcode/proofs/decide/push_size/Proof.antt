@@ -1,4 +1,4 @@
--- `opcode::decide::push_size` inside the range, below it and above it. Assumes nothing.
+-- `opcode::decide::push_size` inside the range, below it and above it.
 use borrow.Author.Needs.{needs}
 use Rattle.opcode.proofs.Push.{push-in, push-below, push-above}
 use Rattle.opcode.proofs.decide.push_size.Statement.{statement}

@@ -1,5 +1,4 @@
--- `operation_vectors::change::change_child` tests what the operations require, and keeps the table's shape. Assumes
--- nothing.
+-- `operation_vectors::change::change_child` tests what the operations require, and keeps the table's shape.
 use borrow.Author.Needs.{needs}
 use Rattle.operation_vectors.proofs.Room.{room}
 use Rattle.operation_vectors.proofs.change.change_child.Statement.{statement}

@@ -1,4 +1,4 @@
--- `operation_vectors::change::insert` keeps the table's shape. Assumes nothing.
+-- `operation_vectors::change::insert` keeps the table's shape.
 use borrow.Author.Needs.{needs}
 use Rattle.paths.proofs.Finds.{find-none}
 use Rattle.operation_vectors.proofs.change.insert.Statement.{statement}

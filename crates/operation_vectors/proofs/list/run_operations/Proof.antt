@@ -1,4 +1,4 @@
--- `operation_vectors::list::run_operations` keeps the table's shape from one operation to the next. Assumes nothing.
+-- `operation_vectors::list::run_operations` keeps the table's shape from one operation to the next.
 use Prim.Native.Nat.{_-_}
 use borrow.Author.Needs.{needs}
 use Rattle.paths.specs.Shape.{Shaped}

@@ -1,4 +1,4 @@
--- `operation_vectors::report::put_record` reads the fields of one record. Assumes nothing.
+-- `operation_vectors::report::put_record` reads the fields of one record.
 use Prim.Native.Nat.{_-_, _≤_}
 use borrow.Author.Needs.{needs}
 use Rattle.limits.specs.Limits.{recordWidth}

@@ -1,4 +1,4 @@
--- `operation_vectors::report::put_records` reads the used records. Assumes nothing.
+-- `operation_vectors::report::put_records` reads the used records.
 use Prim.Native.Nat.{_+_, _-_, _≤_}
 use borrow.Author.Needs.{needs}
 use Rattle.operation_vectors.proofs.report.put_records.Statement.{statement}

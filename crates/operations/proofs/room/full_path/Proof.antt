@@ -1,4 +1,4 @@
--- `operations::room::full_path` meets its contract. Assumes nothing.
+-- `operations::room::full_path` meets its contract.
 use mathlib.Core.Path.{sym, ap}
 use borrow.Author.Needs.{needs}
 use Rattle.operations.specs.Asks.{makes}

@@ -1,4 +1,4 @@
--- `operations::room::has_room` meets its contract. Assumes nothing.
+-- `operations::room::has_room` meets its contract.
 use borrow.Author.Needs.{needs}
 use Rattle.operations.proofs.Rooms.{room-enough, room-counted, room-asks}
 use Rattle.operations.proofs.room.has_room.Statement.{statement}

@@ -1,4 +1,4 @@
--- `operations::room::lack` meets its contract. Assumes nothing.
+-- `operations::room::lack` meets its contract.
 use denote.Ref.{now}
 use Rattle.operations.proofs.Rooms.{lack-none, lack-asks, lack-some}
 use Rattle.operations.proofs.room.lack.Statement.{statement}

@@ -1,4 +1,4 @@
--- `operations::running::make_dynamic` meets its contract. Assumes nothing.
+-- `operations::running::make_dynamic` meets its contract.
 use borrow.Author.Needs.{needs}
 use Rattle.operations.proofs.Calls.{dynamic-asks, dynamic-done}
 use Rattle.operations.proofs.running.make_dynamic.Statement.{statement}

@@ -1,4 +1,4 @@
--- `operations::running::run` meets its contract. Assumes nothing.
+-- `operations::running::run` meets its contract.
 use mathlib.Core.Path.{refl}
 use borrow.Author.Needs.{needs}
 use Rattle.operations.specs.Run.{run}

@@ -1,4 +1,4 @@
--- `paths::depth::depth_of` meets its contract: `Deeper` holds before each record. Assumes nothing.
+-- `paths::depth::depth_of` meets its contract: `Deeper` holds before each record.
 use native.Mathlib.Omega.{arith}
 use borrow.Author.Needs.{needs}
 use Rattle.paths.proofs.Depths.{Deeper, deep-start, deep-has, deep-fits, deep-less, deep-next, deep-done}

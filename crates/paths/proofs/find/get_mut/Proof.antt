@@ -1,4 +1,4 @@
--- `paths::find::get_mut` meets its contract. Assumes nothing.
+-- `paths::find::get_mut` meets its contract.
 use native.Mathlib.Omega.{arith}
 use borrow.Author.Needs.{needs}
 use Rattle.paths.proofs.Finds.{get-none, get-seen, get-unseen}

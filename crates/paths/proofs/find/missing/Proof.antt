@@ -1,4 +1,4 @@
--- `paths::find::missing` meets its contract. Assumes nothing.
+-- `paths::find::missing` meets its contract.
 use native.Mathlib.Omega.{arith}
 use borrow.Author.Needs.{needs}
 use Rattle.paths.proofs.Finds.{missing-none, missing-some}

@@ -1,4 +1,4 @@
--- `paths::insert::find_at` meets its contract. Assumes nothing.
+-- `paths::insert::find_at` meets its contract.
 use mathlib.Core.Path.{sym, _∙_}
 use native.Mathlib.Omega.{arith}
 use Rattle.paths.proofs.Walk.{kid-has}

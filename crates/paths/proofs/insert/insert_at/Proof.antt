@@ -1,4 +1,4 @@
--- `paths::insert::insert_at` meets its contract. Assumes nothing.
+-- `paths::insert::insert_at` meets its contract.
 use mathlib.Core.Path.{refl}
 use native.Mathlib.Omega.{arith}
 use borrow.Author.Needs.{needs}
@@ -39,7 +39,7 @@ set-field-requires-5 c κs =
     let l3 = sf3 .set-field3 .kept .0 in
     let l2 = sf2 .set-field2 .kept .0 in
     let l1 = sf1 .set-field .kept .0 in
-    record { from = omega (arith, K .above); within = omega (arith, K .used); one = omega arith }
+    record { from = omega (arith, K .above); within = omega (arith, K .used); field = omega arith }
 
 returns-2 : tie.Need-returns-2
 returns-2 c =

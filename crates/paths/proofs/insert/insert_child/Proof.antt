@@ -1,4 +1,4 @@
--- `paths::insert::insert_child` meets its contract. Assumes nothing.
+-- `paths::insert::insert_child` meets its contract.
 use borrow.Author.Needs.{needs}
 use Rattle.paths.proofs.Spotting.{before-none}
 use Rattle.paths.proofs.insert.insert_child.Statement.{statement}

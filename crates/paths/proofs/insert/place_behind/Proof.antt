@@ -1,5 +1,5 @@
 -- `paths::insert::place_behind` meets its contract: `Spotting` holds before each run of the chain and before each
--- record of a run. The keys left fall. Assumes nothing.
+-- record of a run. The keys left fall.
 use mathlib.Core.Path.{refl, sym, _∙_}
 use native.Mathlib.Omega.{arith}
 use borrow.Author.Needs.{needs}

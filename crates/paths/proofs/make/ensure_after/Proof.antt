@@ -1,4 +1,4 @@
--- `paths::make::ensure_after` meets its contract. Assumes nothing.
+-- `paths::make::ensure_after` meets its contract.
 use borrow.Author.Needs.{needs}
 use Rattle.paths.proofs.Finds.{find-none, ensured-old, ensured-new}
 use Rattle.paths.proofs.make.ensure_after.Statement.{statement}

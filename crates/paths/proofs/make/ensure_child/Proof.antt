@@ -1,4 +1,4 @@
--- `paths::make::ensure_child` meets its contract. Assumes nothing.
+-- `paths::make::ensure_child` meets its contract.
 use borrow.Author.Needs.{needs}
 use Rattle.paths.proofs.Spotting.{before-none}
 use Rattle.paths.proofs.make.ensure_child.Statement.{statement}

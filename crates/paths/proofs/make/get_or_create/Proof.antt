@@ -1,4 +1,4 @@
--- `paths::make::get_or_create` meets its contract. Assumes nothing.
+-- `paths::make::get_or_create` meets its contract.
 use borrow.Author.Needs.{needs}
 use Rattle.paths.proofs.Spotting.{before-none}
 use Rattle.paths.proofs.make.get_or_create.Statement.{statement}

@@ -1,4 +1,4 @@
--- `paths::make::get_or_create_after` meets its contract. Assumes nothing.
+-- `paths::make::get_or_create_after` meets its contract.
 use borrow.Author.Needs.{needs}
 use Rattle.paths.proofs.Seens.{created}
 use Rattle.paths.proofs.make.get_or_create_after.Statement.{statement}

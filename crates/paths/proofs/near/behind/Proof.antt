@@ -1,4 +1,4 @@
--- `paths::near::behind` meets its contract. Assumes nothing.
+-- `paths::near::behind` meets its contract.
 use native.Mathlib.Omega.{arith}
 use borrow.Author.Needs.{needs}
 use Rattle.paths.proofs.Walk.{kid-has}

@@ -1,5 +1,4 @@
--- `paths::near::nearer` meets its contract: a difference that does not reach up to the key did not wrap. Assumes
--- nothing.
+-- `paths::near::nearer` meets its contract: a difference that does not reach up to the key did not wrap.
 use mathlib.Core.Path.{sym, _∙_}
 use native.Mathlib.Omega.{arith}
 use borrow.Author.Needs.{needs}

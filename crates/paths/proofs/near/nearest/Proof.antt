@@ -1,4 +1,4 @@
--- `paths::near::nearest` meets its contract: the one that is held is always a child with a lower key. Assumes nothing.
+-- `paths::near::nearest` meets its contract: the one that is held is always a child with a lower key.
 use Prim.Native.Nat.{_≤_}
 use native.Mathlib.Omega.{arith}
 use borrow.Author.Needs.{needs}

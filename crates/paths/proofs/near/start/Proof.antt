@@ -1,5 +1,4 @@
--- `paths::near::start` meets its contract: the one that is held is always a child with a lower key, or none. Assumes
--- nothing.
+-- `paths::near::start` meets its contract: the one that is held is always a child with a lower key, or none.
 use Prim.Native.Nat.{_-_, _≤_}
 use native.Mathlib.Omega.{arith}
 use denote.Ref.{now}

@@ -1,4 +1,4 @@
--- `paths::node::store` meets its contract. Assumes nothing.
+-- `paths::node::store` meets its contract.
 use borrow.Author.Needs.{needs}
 use Rattle.paths.proofs.Frame.{stored}
 use Rattle.paths.proofs.node.store.Statement.{statement}

@@ -1,5 +1,4 @@
 -- `paths::seen::make_seen` meets its contract: `Climb` holds before each record, and a parent has a lower number.
--- Assumes nothing.
 use mathlib.Core.Path.{sym, _∙_}
 use native.Mathlib.Omega.{arith}
 use Rattle.facts.specs.State.{nodes}

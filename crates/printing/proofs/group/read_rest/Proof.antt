@@ -1,4 +1,4 @@
--- `printing::group::read_rest`: what follows a front that fits is within the room. Assumes nothing.
+-- `printing::group::read_rest`: what follows a front that fits is within the room.
 use Rattle.trace.proofs.GroupLaws.{rest-within}
 use borrow.Author.Needs.{needs}
 use Rattle.printing.proofs.group.read_rest.Statement.{statement}

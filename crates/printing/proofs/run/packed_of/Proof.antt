@@ -1,4 +1,4 @@
--- `printing::run::packed_of`: absent at flag 0, else the word that stands in the header. Assumes nothing.
+-- `printing::run::packed_of`: absent at flag 0, else the word that stands in the header.
 use borrow.Author.Needs.{needs}
 use borrow.Author.Tests.{eq-eqb, ne-eqb}
 use Rattle.printing.proofs.run.packed_of.Statement.{statement}

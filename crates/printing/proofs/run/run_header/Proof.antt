@@ -1,4 +1,4 @@
--- `printing::run::run_header` lends as much as a code length that fits asks for. Assumes nothing.
+-- `printing::run::run_header` lends as much as a code length that fits asks for.
 use Rattle.trace.proofs.FitLaws.{code-fits}
 use borrow.Author.Needs.{needs}
 use Rattle.printing.proofs.run.run_header.Statement.{statement}

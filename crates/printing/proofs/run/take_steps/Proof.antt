@@ -1,4 +1,4 @@
--- `printing::run::take_steps` ends: the steps left fall. Assumes nothing.
+-- `printing::run::take_steps` ends: the steps left fall.
 use Prim.Native.Nat.{_-_}
 use mathlib.Core.Path.{_≡_}
 use lib.ListN.{length}

@@ -1,4 +1,4 @@
--- `printing::source::expand` stores inside the slice alone, and ends: what is left of the slice falls. Assumes nothing.
+-- `printing::source::expand` stores inside the slice alone, and ends: what is left of the slice falls.
 use Prim.Native.Nat.{_-_}
 use mathlib.Core.Path.{_≡_}
 use lib.ListN.{length}

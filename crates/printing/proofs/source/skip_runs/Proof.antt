@@ -1,4 +1,4 @@
--- `printing::source::skip_runs` ends: the bytes left fall. Assumes nothing.
+-- `printing::source::skip_runs` ends: the bytes left fall.
 use Prim.Native.Nat.{_-_}
 use borrow.Author.Needs.{needs}
 use Rattle.printing.proofs.source.skip_runs.Statement.{statement}

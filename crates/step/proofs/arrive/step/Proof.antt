@@ -1,4 +1,4 @@
--- `step::arrive::step` meets its contract. Assumes nothing.
+-- `step::arrive::step` meets its contract.
 use borrow.Author.Needs.{needs}
 use Rattle.head.proofs.Asking.{records-so}
 use Rattle.step.proofs.Arriving.{not-admitted}

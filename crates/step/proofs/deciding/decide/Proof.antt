@@ -1,7 +1,8 @@
--- `step::deciding::decide` meets its contract. Assumes nothing.
+-- `step::deciding::decide` meets its contract.
 use native.Mathlib.Omega.{arith}
 use borrow.Author.Needs.{needs}
-use Rattle.step.proofs.Refusing.{yes, fit-width, fit-op, long-code, broken-sizes, broken-labels, broken-fields, no-slot, has-passed}
+use Rattle.step.proofs.Refusing.{yes, fit-width, fit-op, long-code, broken-sizes, broken-labels, broken-fields}
+use Rattle.step.proofs.Refusing.{no-slot, has-passed}
 use Rattle.step.proofs.deciding.decide.Statement.{statement}
 use Rattle.step.proofs.deciding.decide.Tie as tie
 

@@ -1,4 +1,4 @@
--- `step::deciding::plan_step` meets its contract. Assumes nothing.
+-- `step::deciding::plan_step` meets its contract.
 use borrow.Author.Needs.{needs}
 use Rattle.step.proofs.Planning.{read-asks, plan-asks, room-asks, no-room, accepted}
 use Rattle.step.proofs.deciding.plan_step.Statement.{statement}

@@ -1,4 +1,4 @@
--- `step::judging::judge` meets its contract. Assumes nothing.
+-- `step::judging::judge` meets its contract.
 use borrow.Author.Needs.{needs}
 use Rattle.step.proofs.Arriving.{accepts-so, refuses-so}
 use Rattle.step.proofs.judging.judge.Statement.{statement}

@@ -1,4 +1,4 @@
--- `step::judging::take` meets its contract. Assumes nothing.
+-- `step::judging::take` meets its contract.
 use borrow.Author.Needs.{needs}
 use Rattle.step.proofs.Taking.{hints-asks, plan-asks, stack-asks, memory-asks, taken}
 use Rattle.step.proofs.judging.take.Statement.{statement}

@@ -1,4 +1,4 @@
--- `step::questions::copy_fits` meets its contract. Assumes nothing.
+-- `step::questions::copy_fits` meets its contract.
 use borrow.Author.Needs.{needs}
 use Rattle.step.proofs.Asking.{no-copy, a-copy}
 use Rattle.step.proofs.questions.copy_fits.Tie as tie

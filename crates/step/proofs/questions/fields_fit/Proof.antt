@@ -1,4 +1,4 @@
--- `step::questions::fields_fit` meets its contract. Assumes nothing.
+-- `step::questions::fields_fit` meets its contract.
 use native.Mathlib.Omega.{arith}
 use borrow.Author.Needs.{needs}
 use Rattle.step.proofs.Asking.{fields-are}

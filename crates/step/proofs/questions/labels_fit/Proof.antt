@@ -1,4 +1,4 @@
--- `step::questions::labels_fit` meets its contract. Assumes nothing.
+-- `step::questions::labels_fit` meets its contract.
 use borrow.Author.Needs.{needs}
 use Rattle.step.proofs.Asking.{labels-are}
 use Rattle.step.proofs.questions.labels_fit.Statement.{statement}

@@ -1,4 +1,4 @@
--- `step::questions::load_fits` meets its contract. Assumes nothing.
+-- `step::questions::load_fits` meets its contract.
 use borrow.Author.Needs.{needs}
 use Rattle.step.proofs.Asking.{unloaded, loaded}
 use Rattle.step.proofs.questions.load_fits.Statement.{statement}

@@ -1,4 +1,4 @@
--- `step::questions::sizes_fit` meets its contract. Assumes nothing.
+-- `step::questions::sizes_fit` meets its contract.
 use borrow.Author.Needs.{needs}
 use Rattle.step.proofs.Asking.{sizes-are}
 use Rattle.step.proofs.questions.sizes_fit.Statement.{statement}

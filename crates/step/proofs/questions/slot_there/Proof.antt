@@ -1,4 +1,4 @@
--- `step::questions::slot_there` meets its contract. Assumes nothing.
+-- `step::questions::slot_there` meets its contract.
 use borrow.Author.Needs.{needs}
 use Rattle.step.proofs.Asking.{slot-is}
 use Rattle.step.proofs.questions.slot_there.Statement.{statement}

@@ -1,4 +1,4 @@
--- `step::running::is_array` meets its contract. Assumes nothing.
+-- `step::running::is_array` meets its contract.
 use borrow.Author.Needs.{needs}
 use Rattle.step.proofs.Turns.{no-record, array-is}
 use Rattle.step.proofs.running.is_array.Statement.{statement}

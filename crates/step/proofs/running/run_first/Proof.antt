@@ -1,4 +1,4 @@
--- `step::running::run_first` meets its contract. Assumes nothing.
+-- `step::running::run_first` meets its contract.
 use borrow.Author.Needs.{needs}
 use Rattle.step.proofs.Turns.{dynamic-asks, ran-other, ran-dynamic}
 use Rattle.step.proofs.running.run_first.Statement.{statement}

@@ -1,4 +1,4 @@
--- `step::running::run_hints` meets its contract. Assumes nothing.
+-- `step::running::run_hints` meets its contract.
 use borrow.Author.Needs.{needs}
 use Rattle.step.proofs.Turns.{hints-turn, turn-asks, turn-next, turn-done, last-done}
 use Rattle.step.proofs.running.run_hints.Statement.{statement}

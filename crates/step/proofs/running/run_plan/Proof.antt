@@ -1,7 +1,8 @@
--- `step::running::run_plan` meets its contract. Assumes nothing.
+-- `step::running::run_plan` meets its contract.
 use native.Mathlib.Omega.{arith}
 use borrow.Author.Needs.{needs}
-use Rattle.step.proofs.Turns.{plan-turn, first-asks, turn-asks, turn-next, turn-grows, turn-done, last-done, plan-ran}
+use Rattle.step.proofs.Turns.{plan-turn, first-asks, turn-asks, turn-next, turn-grows, turn-done, last-done}
+use Rattle.step.proofs.Turns.{plan-ran}
 use Rattle.step.proofs.running.run_plan.Statement.{statement}
 use Rattle.step.proofs.running.run_plan.Tie as tie
 

@@ -1,4 +1,4 @@
--- `step::writing::put_loaded` meets its contract. Assumes nothing.
+-- `step::writing::put_loaded` meets its contract.
 use borrow.Author.Needs.{needs}
 use Rattle.step.proofs.Written.{loaded-length, loaded-other}
 use Rattle.step.proofs.writing.put_loaded.Statement.{statement}

@@ -1,4 +1,4 @@
--- `step::writing::put_picked` meets its contract. Assumes nothing.
+-- `step::writing::put_picked` meets its contract.
 use borrow.Author.Needs.{needs}
 use Rattle.step.proofs.Written.{picked-length, picked-other}
 use Rattle.step.proofs.writing.put_picked.Statement.{statement}

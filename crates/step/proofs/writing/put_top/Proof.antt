@@ -1,4 +1,4 @@
--- `step::writing::put_top` meets its contract. Assumes nothing.
+-- `step::writing::put_top` meets its contract.
 use Prim.Native.Nat.{ℕ}
 use mathlib.Core.List.{List}
 use borrow.Author.Needs.{needs}

@@ -1,4 +1,4 @@
--- `step::writing::write_memory` meets its contract. Assumes nothing.
+-- `step::writing::write_memory` meets its contract.
 use borrow.Author.Needs.{needs}
 use Rattle.step.proofs.Written.{label-entry, loaded-entry, memory-kept, memory-label, memory-loaded, memory-ones}
 use Rattle.step.proofs.writing.write_memory.Statement.{statement}

@@ -1,4 +1,4 @@
--- `step_vectors::report::count_set` reads inside the list, and no more are counted than it has. Assumes nothing.
+-- `step_vectors::report::count_set` reads inside the list, and no more are counted than it has.
 use Prim.Native.Nat.{_≤_, _-_}
 use borrow.Author.Needs.{needs}
 use lib.ListN.{length}

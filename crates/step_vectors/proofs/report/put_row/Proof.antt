@@ -1,4 +1,4 @@
--- `step_vectors::report::put_row` reads inside the row. Assumes nothing.
+-- `step_vectors::report::put_row` reads inside the row.
 use Prim.Native.Nat.{_-_}
 use borrow.Author.Needs.{needs}
 use lib.ListN.{length}

@@ -1,5 +1,5 @@
 -- `step_vectors::report::put_rows` takes each row from inside the list, and the rows before an index are no more than
--- the numbers there. Assumes nothing.
+-- the numbers there.
 use Prim.Native.Nat.{_≤_, _-_}
 use borrow.Author.Needs.{needs}
 use lib.ListN.{length}

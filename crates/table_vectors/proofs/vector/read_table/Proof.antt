@@ -1,4 +1,4 @@
--- `table_vectors::vector::read_table` stores inside the slice alone. Assumes nothing.
+-- `table_vectors::vector::read_table` stores inside the slice alone.
 use borrow.Author.Needs.{needs}
 use Prim.Native.Nat.{_-_}
 use mathlib.Core.Path.{_≡_}

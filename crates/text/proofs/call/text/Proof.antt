@@ -1,4 +1,4 @@
--- `text::call::text`, answer by answer. Assumes nothing.
+-- `text::call::text`, answer by answer.
 use borrow.Author.Needs.{needs}
 use Rattle.text.proofs.Calls.{many-codes, not-types, no-room, text-fits, all-written}
 use Rattle.text.proofs.call.text.Statement.{statement}

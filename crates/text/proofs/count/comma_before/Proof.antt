@@ -1,4 +1,4 @@
--- `text::count::comma_before` meets its contract. Assumes nothing.
+-- `text::count::comma_before` meets its contract.
 use borrow.Author.Needs.{needs}
 use Rattle.text.proofs.Tallies.{comma-first, comma-none}
 use Rattle.text.proofs.count.comma_before.Statement.{statement}

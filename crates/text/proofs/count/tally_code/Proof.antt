@@ -1,4 +1,4 @@
--- `text::count::tally_code`, kind by kind. Assumes nothing.
+-- `text::count::tally_code`, kind by kind.
 use borrow.Author.Needs.{needs}
 use Rattle.text.proofs.Tallies.{is-name, tally-name, tally-array, tally-tuple, tally-unknown}
 use Rattle.text.proofs.count.tally_code.Statement.{statement}

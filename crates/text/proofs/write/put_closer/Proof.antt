@@ -1,6 +1,7 @@
--- `text::write::put_closer`: brackets, or the parenthesis. Assumes nothing.
+-- `text::write::put_closer`: brackets, or the parenthesis.
 use borrow.Author.Needs.{needs}
-use Rattle.text.proofs.Pieces.{closer-room, closer-stored, closer-behind, bracket-closer, paren-closer, bracket-long, paren-long}
+use Rattle.spell.proofs.Stores.{stored-as, room}
+use Rattle.text.proofs.Pieces.{bracket-closer, paren-closer, bracket-long, paren-long}
 use Rattle.text.proofs.write.put_closer.Statement.{statement}
 use Rattle.text.proofs.write.put_closer.Tie as tie
 
@@ -9,10 +10,10 @@ put-closer-spec =
     tie.close
     (tie.spec
     (λ c. search needs)
-    (λ c κs. search (closer-room, bracket-long, needs))
+    (λ c κs. search (room, bracket-long, needs))
     (λ c. search needs)
-    (λ c. search (closer-stored, closer-behind, bracket-closer, bracket-long, needs))
+    (λ c. search (stored-as, bracket-closer, needs))
     (λ c. search needs)
-    (λ c κs. search (closer-room, paren-long, needs))
+    (λ c κs. search (room, paren-long, needs))
     (λ c. search needs)
-    (λ c. search (closer-stored, closer-behind, paren-closer, paren-long, needs)))
+    (λ c. search (stored-as, paren-closer, needs)))

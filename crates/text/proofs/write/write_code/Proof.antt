@@ -1,6 +1,7 @@
--- `text::write::write_code`, kind by kind. Assumes nothing.
+-- `text::write::write_code`, kind by kind.
 use borrow.Author.Needs.{needs}
-use Rattle.text.proofs.Tallies.{is-name, tuple-small}
+use Rattle.types.proofs.KindLaws.{tuple-small}
+use Rattle.text.proofs.Tallies.{is-name}
 use Rattle.text.proofs.Pieces.{code-room, tuple-room, code-name, code-array, code-tuple, code-unknown}
 use Rattle.text.proofs.write.write_code.Statement.{statement}
 use Rattle.text.proofs.write.write_code.Tie as tie

@@ -1,4 +1,4 @@
--- `text::write::write_name`: the name, what closes behind it, and a comma if more follows. Assumes nothing.
+-- `text::write::write_name`: the name, what closes behind it, and a comma if more follows.
 use borrow.Author.Needs.{needs}
 use Rattle.text.proofs.Pieces.{name-room, closers-room, name-last, comma-room, name-more}
 use Rattle.text.proofs.write.write_name.Statement.{statement}
@@ -17,14 +17,15 @@ write-name-spec =
     (λ c κs.
     let q = c .before .before .before .before .before .before .before in
     let p = q .before .before .before .before .before in
-    comma-room _ _ _ _ _ (p .before .before .before .before .pre .1 .1) _ _ (p .put-name .ensures .0) (p .put-name .ensures .1) _ _ _ _ (q .close .ensures .0) (c .before .before .if1 .left))
+    let room = p .before .before .before .before .pre .1 .1 in
+    comma-room _ _ _ _ _ room _ _ (p .put-name .ensures) _ _ _ _ (q .close .ensures .0) (c .before .before .if1 .left))
     (λ c. search needs)
     (λ c. search needs)
     (λ c.
     let w = c .before .before in
     let q = w .before .before .before .before .before .before .before .before in
-    let p = q .before .before .before .before .before in (
-      name-more _ _ _ _ _ (p .before .before .before .before .pre .1 .1) _ _ (p .put-name .ensures .0) (p .put-name .ensures .1) _ _ _ _ (q .close .ensures .0) (w .before .before .before .if1 .left) _ _
-          (w .put-bytes .ensures .0) (w .put-bytes .ensures .1),
-      q .close .ensures .1,
-    )))
+    let p = q .before .before .before .before .before in
+    let room = p .before .before .before .before .pre .1 .1 in
+    let more = w .before .before .before .if1 .left in
+    let shut = q .close .ensures in
+    (name-more _ _ _ _ _ room _ _ (p .put-name .ensures) _ _ _ _ (shut .0) more _ _ (w .put-bytes .ensures), shut .1)))

@@ -1,4 +1,4 @@
--- `text_vectors::report::fill` stores inside the slice alone. Assumes nothing.
+-- `text_vectors::report::fill` stores inside the slice alone.
 use borrow.Author.Needs.{needs}
 use Prim.Native.Nat.{_-_}
 use mathlib.Core.Path.{_≡_}

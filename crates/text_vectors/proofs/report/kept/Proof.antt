@@ -1,4 +1,4 @@
--- `text_vectors::report::kept` ends at the end of the slice. Assumes nothing.
+-- `text_vectors::report::kept` ends at the end of the slice.
 use borrow.Author.Needs.{needs}
 use Prim.Native.Nat.{_-_}
 use lib.ListN.{length}

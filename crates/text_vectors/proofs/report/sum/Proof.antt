@@ -1,4 +1,4 @@
--- `text_vectors::report::sum`: the sum stays below the modulus. Assumes nothing.
+-- `text_vectors::report::sum`: the sum stays below the modulus.
 use borrow.Author.Needs.{needs}
 use Prim.Native.Nat.{_-_, _≤_, _<_}
 use native.Mathlib.Omega.{arith}

@@ -1,4 +1,4 @@
--- `text_vectors::vector::put_run` stores inside the slice alone. Assumes nothing.
+-- `text_vectors::vector::put_run` stores inside the slice alone.
 use borrow.Author.Needs.{needs}
 use Prim.Native.Nat.{_≤_}
 use mathlib.Core.Path.{_≡_}

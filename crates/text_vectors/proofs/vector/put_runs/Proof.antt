@@ -1,4 +1,4 @@
--- `text_vectors::vector::put_runs`: the runs stay inside the slice. Assumes nothing.
+-- `text_vectors::vector::put_runs`: the runs stay inside the slice.
 use borrow.Author.Needs.{needs}
 use Prim.Native.Nat.{_-_, _≤_}
 use mathlib.Core.Path.{_≡_}

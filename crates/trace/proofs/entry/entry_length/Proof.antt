@@ -1,5 +1,5 @@
 -- `trace::entry::entry_length`: behind i codes so many types are wanted, and the codes left that they take make up the
--- first type's. Assumes nothing.
+-- first type's.
 use Prim.Native.Nat.{_-_}
 use borrow.Author.Needs.{needs}
 use lib.ListN.{length}

@@ -1,6 +1,7 @@
--- `trace::entry::following`, kind by kind. Assumes nothing.
+-- `trace::entry::following`, kind by kind.
 use borrow.Author.Needs.{needs}
-use Rattle.trace.proofs.Spans.{follow-name, follow-array, follow-tuple, tuple-small, follow-unknown}
+use Rattle.types.proofs.KindLaws.{tuple-small}
+use Rattle.trace.proofs.Spans.{follow-name, follow-array, follow-tuple, follow-unknown}
 use Rattle.trace.proofs.entry.following.Statement.{statement}
 use Rattle.trace.proofs.entry.following.Tie as tie
 

@@ -1,4 +1,4 @@
--- `trace::fits::group_fits`: the numbers of slots and of entries, each by its test. Assumes nothing.
+-- `trace::fits::group_fits`: the numbers of slots and of entries, each by its test.
 use borrow.Author.Tests.{le-leb, lt-leb}
 use Rattle.trace.proofs.fits.group_fits.Statement.{statement}
 use Rattle.trace.proofs.fits.group_fits.Tie as tie

@@ -1,4 +1,4 @@
--- `trace::fits::header_fits`: the code's length and the packed flag, each by its test. Assumes nothing.
+-- `trace::fits::header_fits`: the code's length and the packed flag, each by its test.
 use borrow.Author.Tests.{le-leb, lt-leb}
 use Rattle.trace.proofs.fits.header_fits.Statement.{statement}
 use Rattle.trace.proofs.fits.header_fits.Tie as tie

@@ -1,4 +1,4 @@
--- `trace::group::group_rest`: counts that are over, and what follows counts that fit. Assumes nothing.
+-- `trace::group::group_rest`: counts that are over, and what follows counts that fit.
 use Rattle.trace.proofs.GroupLaws.{rest-over, rest-bytes}
 use borrow.Author.Needs.{needs}
 use Rattle.trace.proofs.group.group_rest.Statement.{statement}

@@ -1,4 +1,4 @@
--- `trace::lines::put_refused`, piece by piece. Assumes nothing.
+-- `trace::lines::put_refused`, piece by piece.
 use borrow.Author.Needs.{needs}
 use Rattle.trace.proofs.Pieces.{refused-stored}
 use Rattle.trace.proofs.lines.put_refused.Statement.{statement}

@@ -1,5 +1,4 @@
--- `trace::listing::put_entries`: the lines left, written behind those that are, give the lines of the list. Assumes
--- nothing.
+-- `trace::listing::put_entries`: the lines left, written behind those that are, give the lines of the list.
 use Prim.Native.Nat.{_-_}
 use Rattle.trace.proofs.EntryLoops.{Listing, listing-none, listing-full, listing-end, listing-more}
 use borrow.Author.Needs.{needs}

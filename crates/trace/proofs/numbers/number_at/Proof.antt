@@ -1,4 +1,4 @@
--- `trace::numbers::number_at`: four bytes inside the slice, and their sum. Assumes nothing.
+-- `trace::numbers::number_at`: four bytes inside the slice, and their sum.
 use borrow.Author.Needs.{needs}
 use Rattle.trace.proofs.NumberLaws.{number-is}
 use Rattle.trace.proofs.numbers.number_at.Statement.{statement}

@@ -1,4 +1,4 @@
--- `trace::numbers::read_numbers`: behind i turns the first i numbers are read. Assumes nothing.
+-- `trace::numbers::read_numbers`: behind i turns the first i numbers are read.
 use mathlib.Core.Path.{_≡_}
 use Prim.Native.Nat.{_-_, _≤_}
 use borrow.Author.Needs.{needs}

@@ -1,4 +1,4 @@
--- `type_walk::ahead::ends_at` meets its contract. Assumes nothing.
+-- `type_walk::ahead::ends_at` meets its contract.
 use Rattle.type_walk.proofs.AheadLaws.{ends-is}
 use borrow.Author.Needs.{needs}
 use Rattle.type_walk.proofs.ahead.ends_at.Statement.{statement}

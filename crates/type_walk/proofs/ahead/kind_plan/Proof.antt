@@ -1,4 +1,4 @@
--- `type_walk::ahead::kind_plan` meets its contract. Assumes nothing.
+-- `type_walk::ahead::kind_plan` meets its contract.
 use native.Mathlib.Omega.{arith}
 use Rattle.paths.proofs.Frame.{sound-shaped}
 use Rattle.paths.proofs.Tail.{has-field}

@@ -1,4 +1,4 @@
--- `type_walk::ahead::name_holds` meets its contract. Assumes nothing.
+-- `type_walk::ahead::name_holds` meets its contract.
 use native.Mathlib.Omega.{arith}
 use Rattle.paths.proofs.Tail.{has-field}
 use Rattle.type_walk.proofs.AheadLaws.{holds-bytes, holds-else}

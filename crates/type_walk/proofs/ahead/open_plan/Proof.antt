@@ -1,4 +1,4 @@
--- `type_walk::ahead::open_plan` meets its contract. Assumes nothing.
+-- `type_walk::ahead::open_plan` meets its contract.
 use Rattle.type_walk.proofs.AheadLaws.{open-bytes, open-words, open-lone, open-else}
 use borrow.Author.Needs.{needs}
 use Rattle.type_walk.proofs.ahead.open_plan.Statement.{statement}

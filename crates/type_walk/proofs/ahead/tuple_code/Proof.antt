@@ -1,4 +1,4 @@
--- `type_walk::ahead::tuple_code` meets its contract. Assumes nothing.
+-- `type_walk::ahead::tuple_code` meets its contract.
 use Rattle.type_walk.proofs.AheadLaws.{tuple-some, tuple-none}
 use borrow.Author.Needs.{needs}
 use Rattle.type_walk.proofs.ahead.tuple_code.Statement.{statement}

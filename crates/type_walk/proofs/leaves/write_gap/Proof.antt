@@ -1,6 +1,5 @@
 -- `type_walk::leaves::write_gap` meets its contract: `Writing` holds before each word, and the child to look at stays.
--- Assumes nothing.
-use Prim.Native.Nat.{ℕ, _-_}
+use Prim.Native.Nat.{ℕ, _-_, _≤_, _<_}
 use mathlib.Core.Path.{_≡_, refl, _∙_}
 use mathlib.Core.Logic.{⊎-elim}
 use native.Mathlib.Omega.{arith}
@@ -16,6 +15,9 @@ use Rattle.type_walk.proofs.leaves.write_gap.Tie as tie
 -- a key that no word comes to
 abbrev keyEnd : ℕ
 keyEnd = 4294967295
+
+some-left : (first end k : ℕ) → (first ≡ 0 → end ≡ keyEnd) → end ≤ k → k < keyEnd → first ≡ 0 → ⊥
+some-left first end k e l h z = let q = e z in omega arith
 
 abbrev Inv-loop : tie.InvT-loop
 Inv-loop table n used r start words first types₀ at done₀ to₀ end types done to =
@@ -52,7 +54,9 @@ same-length c =
 returns : tie.Need-returns Inv-loop μ-loop
 returns c =
     let i = c .before in let l = i .before in let s = l .before .before .before .before in
-    (l .loop .inv .0, λ z. let e = l .loop .inv .2 z in let a = c .if2 .taken in let h = s .pre .1 .0 .2 in let t = i .loop-test .taken in absurd (omega arith))
+    let h = s .pre .1 .0 .2 in let t = i .loop-test .taken in let a = c .if2 .taken in
+    let n = some-left _ _ _ (l .loop .inv .2) a (omega arith) in
+    (l .loop .inv .0, (λ z. absurd (n z), λ _. let e = l .loop .inv .1 n in omega arith))
 
 -- there is room for the code
 mul-types : tie.Need-mul-types Inv-loop μ-loop
@@ -90,7 +94,10 @@ same-length-2 c =
 
 returns-2 : tie.Need-returns-2 Inv-loop μ-loop
 returns-2 c =
-    let l = c .before in (l .loop .inv .0, λ z. let m = l .loop .inv .0 .most in let t = c .loop-test .left in omega arith)
+    let l = c .before in (
+      l .loop .inv .0,
+      (λ z. let m = l .loop .inv .0 .most in let t = c .loop-test .left in omega arith, λ h. let t = c .loop-test .left in absurd (omega arith)),
+    )
 
 pub write-gap-spec : {M : Type 1} → statement M
 write-gap-spec =

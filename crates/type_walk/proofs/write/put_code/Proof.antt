@@ -1,4 +1,4 @@
--- `type_walk::write::put_code` meets its contract. Assumes nothing.
+-- `type_walk::write::put_code` meets its contract.
 use Rattle.type_walk.proofs.WriteLaws.{lead-none, lead-one, lead-fits}
 use borrow.Author.Needs.{needs}
 use Rattle.type_walk.proofs.write.put_code.Statement.{statement}

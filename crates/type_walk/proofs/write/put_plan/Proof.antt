@@ -1,4 +1,4 @@
--- `type_walk::write::put_plan` meets its contract. Assumes nothing.
+-- `type_walk::write::put_plan` meets its contract.
 use Rattle.type_walk.proofs.WriteLaws.{first-fits, second-fits, both-leads}
 use borrow.Author.Needs.{needs}
 use Rattle.type_walk.proofs.write.put_plan.Statement.{statement}

@@ -1,4 +1,4 @@
--- `word::bits::and` meets its contract. Assumes nothing.
+-- `word::bits::and` meets its contract.
 use borrow.Author.Needs.{needs}
 use Rattle.word.proofs.Limbs.{and-is}
 use Rattle.word.proofs.bits.and.Statement.{statement}

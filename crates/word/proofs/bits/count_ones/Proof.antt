@@ -1,4 +1,4 @@
--- `word::bits::count_ones` meets its contract: the four counts fit, and are the count of the whole. Assumes nothing.
+-- `word::bits::count_ones` meets its contract: the four counts fit, and are the count of the whole.
 use borrow.Author.Needs.{needs}
 use Rattle.word.proofs.Limbs.{ones-joined, ones-of-one, ones-of-more, ones-fit}
 use Rattle.word.proofs.bits.count_ones.Statement.{statement}

@@ -1,4 +1,4 @@
--- `word::bits::not` meets its contract. Assumes nothing.
+-- `word::bits::not` meets its contract.
 use borrow.Author.Needs.{needs}
 use Rattle.word.proofs.Limbs.{not-is}
 use Rattle.word.proofs.bits.not.Statement.{statement}

@@ -1,5 +1,4 @@
--- `word::compare::below_number` meets its contract: a limb above the lowest makes the word larger than n. Assumes
--- nothing.
+-- `word::compare::below_number` meets its contract: a limb above the lowest makes the word larger than n.
 use borrow.Author.Needs.{needs}
 use Rattle.word.proofs.Comparisons.{past-bound, some-limb, one-limb-below}
 use Rattle.word.proofs.compare.below_number.Statement.{statement}

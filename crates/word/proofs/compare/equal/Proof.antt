@@ -1,5 +1,5 @@
 -- `word::compare::equal` meets its contract: words whose limbs differ are told apart, and below equal limbs the lowest
--- decides. Assumes nothing.
+-- decides.
 use borrow.Author.Needs.{needs}
 use Rattle.word.proofs.Comparisons.{apart, apart-above, apart-below, lowest-decides, joined-same}
 use Rattle.word.proofs.compare.equal.Statement.{statement}

@@ -1,5 +1,4 @@
--- `word::compare::equals_number` meets its contract: a limb above the lowest makes the word larger than n. Assumes
--- nothing.
+-- `word::compare::equals_number` meets its contract: a limb above the lowest makes the word larger than n.
 use borrow.Author.Needs.{needs}
 use Rattle.word.proofs.Comparisons.{past-number, some-limb, one-limb-equals}
 use Rattle.word.proofs.compare.equals_number.Statement.{statement}

@@ -1,7 +1,7 @@
--- `word::multiply::read_multiplier` meets its contract: each return's reading says the truth of the multiplier. Assumes
--- nothing.
+-- `word::multiply::read_multiplier` meets its contract: each return's reading says the truth of the multiplier.
 use borrow.Author.Needs.{needs}
-use Rattle.word.proofs.Multipliers.{lost-multiplier, kept-multiplier, counted, not-multiple, too-small, too-large}
+use Rattle.word.proofs.Multipliers.{lost-multiplier, kept-multiplier, counted, not-multiple, too-small}
+use Rattle.word.proofs.Multipliers.{too-large}
 use Rattle.word.proofs.multiply.read_multiplier.Statement.{statement}
 use Rattle.word.proofs.multiply.read_multiplier.Tie as tie
 

@@ -1,4 +1,4 @@
--- `word::numbers::from_numbers` meets its contract: each limb is joined of two numbers of the slice. Assumes nothing.
+-- `word::numbers::from_numbers` meets its contract: each limb is joined of two numbers of the slice.
 use borrow.Author.Needs.{needs}
 use Rattle.word.proofs.EightNumbers.{read-limbs, read-value}
 use Rattle.word.proofs.numbers.from_numbers.Statement.{statement}

@@ -1,4 +1,4 @@
--- `word::numbers::put_limb` meets its contract. Assumes nothing.
+-- `word::numbers::put_limb` meets its contract.
 use native.Mathlib.Numerals.{add-one}
 use native.Mathlib.Omega.{arith}
 use lib.ListN.{length-set}

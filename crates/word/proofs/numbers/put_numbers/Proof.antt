@@ -1,4 +1,4 @@
--- `word::numbers::put_numbers` meets its contract: four limbs stored one after the other. Assumes nothing.
+-- `word::numbers::put_numbers` meets its contract: four limbs stored one after the other.
 use borrow.Author.Needs.{needs}
 use Rattle.word.proofs.EightNumbers.{write-is}
 use Rattle.word.proofs.numbers.put_numbers.Statement.{statement}

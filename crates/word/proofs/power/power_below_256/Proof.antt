@@ -1,5 +1,4 @@
 -- `word::power::power_below_256` meets its contract: the limb that is set has the weight 2^0, 2^64, 2^128 or 2^192.
--- Assumes nothing.
 use native.Mathlib.Nat.{zero-add, add-zero, mul-assoc}
 use native.Mathlib.Omega.{arith}
 use borrow.Author.Needs.{needs}

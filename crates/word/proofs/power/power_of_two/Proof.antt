@@ -1,5 +1,4 @@
--- `word::power::power_of_two` meets its contract: a shift that is not kept, or kept from 256 on, gives 0. Assumes
--- nothing.
+-- `word::power::power_of_two` meets its contract: a shift that is not kept, or kept from 256 on, gives 0.
 use borrow.Author.Needs.{needs}
 use Rattle.word.proofs.Powers.{lost-power, kept-power, past-power}
 use Rattle.word.proofs.power.power_of_two.Statement.{statement}

@@ -1,5 +1,4 @@
--- `word::range::is_range_bound` meets its contract: too large, too small, or left to the test from above. Assumes
--- nothing.
+-- `word::range::is_range_bound` meets its contract: too large, too small, or left to the test from above.
 use borrow.Author.Needs.{needs}
 use Rattle.word.proofs.Ranges.{lost-range, low-less, high-less, low-more, high-more}
 use Rattle.word.proofs.range.is_range_bound.Statement.{statement}

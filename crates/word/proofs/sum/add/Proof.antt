@@ -1,4 +1,4 @@
--- `word::sum::add` meets its contract: each limb's sum has the carry of the one below. Assumes nothing.
+-- `word::sum::add` meets its contract: each limb's sum has the carry of the one below.
 use borrow.Author.Needs.{needs}
 use Rattle.word.proofs.Limbs.{sum-is, value-lt}
 use Rattle.word.proofs.sum.add.Statement.{statement}

@@ -1,4 +1,4 @@
--- `word::sum::add_kept` meets its contract, by those of the functions that it calls. Assumes nothing.
+-- `word::sum::add_kept` meets its contract, by those of the functions that it calls.
 use borrow.Author.Needs.{needs}
 use Rattle.word.proofs.sum.add_kept.Statement.{statement}
 use Rattle.word.proofs.sum.add_kept.Tie as tie

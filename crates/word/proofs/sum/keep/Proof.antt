@@ -1,4 +1,4 @@
--- `word::sum::keep` meets its contract: a limb above the lowest makes the number 2^64 or more. Assumes nothing.
+-- `word::sum::keep` meets its contract: a limb above the lowest makes the number 2^64 or more.
 use native.Mathlib.Omega.{arith}
 use borrow.Author.Needs.{needs}
 use Rattle.word.proofs.Comparisons.{some-limb}

@@ -1,6 +1,0 @@
-mod Cases
-mod Words
-pub mod ListCodes
-pub mod ListFormed
-pub mod ListLevels
-pub mod Granted
