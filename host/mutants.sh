@@ -17,11 +17,14 @@ while [ "$n" -le "$last" ]; do
         missed=$((missed + 1))
     else
         case $title in *"(same: "*) steps=100000 ;; *) steps=400000 ;; esac
-        if said=$("$CARGO_TARGET_DIR/debug/harness" mutant 1 $steps 2>&1); then
-            caught=$((caught + 1))
-        else
-            case $title in *"(same: "*) same=$((same + 1)) ;; *) missed=$((missed + 1)) ;; esac
-        fi
+        status=0
+        said=$("$CARGO_TARGET_DIR/debug/harness" mutant 1 $steps 2>&1) || status=$?
+        # 1 is no difference; any other status is no answer
+        case $status-$title in
+        0-*) caught=$((caught + 1)) ;;
+        1-*"(same: "*) same=$((same + 1)) ;;
+        *) missed=$((missed + 1)) ;;
+        esac
         echo "$title: $(echo "$said" | tail -1)"
     fi
     n=$((n + 1))

@@ -1,20 +1,28 @@
-//! Links the proved core if its archive is there: `target/staticlib/libexports.a` of the repository (`rt staticlib exports` makes it), or in the folder
-//! that ARGCOL_ARCHIVE names.
+//! Links the proved core if its archive is there: `target/staticlib/libargcol.a` of the repository (`rt staticlib
+//! argcol` makes it), or where ARGCOL_ARCHIVE says. An archive that was asked for by that name has to be there.
 
-use std::{env, path::PathBuf};
+#[path = "../argcol/archive.rs"]
+mod archive;
+
+use std::{env, process::exit};
 
 fn main() {
     println!("cargo::rustc-check-cfg=cfg(have_archive)");
-    println!("cargo::rerun-if-env-changed=ARGCOL_ARCHIVE");
-    let here = PathBuf::from(env::var("CARGO_MANIFEST_DIR").unwrap());
-    let folder = env::var("ARGCOL_ARCHIVE").map_or_else(|_| here.join("../../target/staticlib"), PathBuf::from);
-    let archive = folder.join("libexports.a");
-    println!("cargo::rerun-if-changed={}", archive.display());
-    if archive.exists() {
-        println!("cargo::rustc-cfg=have_archive");
-        println!("cargo::rustc-link-search=native={}", folder.display());
-        println!("cargo::rustc-link-lib=static=exports");
-    } else {
-        println!("cargo::warning=no archive at {} (ARGCOL_ARCHIVE): the proved core is passed over", archive.display());
+    println!("cargo::rerun-if-changed=../argcol/archive.rs");
+    match archive::folder() {
+        Ok(folder) => {
+            println!("cargo::rustc-cfg=have_archive");
+            println!("cargo::rustc-link-search=native={}", folder.display());
+            println!("cargo::rustc-link-lib=static=argcol");
+        }
+        Err(lines) => {
+            let asked = env::var_os("ARGCOL_ARCHIVE").is_some();
+            let level = if asked { "error" } else { "warning" };
+            lines.iter().for_each(|line| println!("cargo::{level}={line}"));
+            if asked {
+                exit(1);
+            }
+            println!("cargo::warning=the proved core is passed over");
+        }
     }
 }

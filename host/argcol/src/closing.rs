@@ -1,87 +1,97 @@
-use crate::types::{Type, text};
-use std::fmt;
+use crate::{error::Error, list::List, raw::Answered};
+use core::fmt;
 
-/// A closing's answer.
-#[derive(Clone, Debug, PartialEq, Eq)]
-pub enum Closing {
+/// A closing's answer: its outcome, with a [`List`] or, by [`Session::close_into`](crate::Session::close_into), with
+/// [`Codes`]. Later versions report more beside the outcome, so that it is not taken apart whole:
+///
+/// ```compile_fail,E0638
+/// let argcol::Closing { outcome } = argcol::Session::new(64)?.close(&[], 0, None)?;
+/// # Ok::<(), argcol::Error>(())
+/// ```
+///
+/// ```
+/// let argcol::Closing { outcome, .. } = argcol::Session::new(64)?.close(&[], 0, None)?;
+/// assert_eq!(outcome, argcol::Outcome::None);
+/// # Ok::<(), argcol::Error>(())
+/// ```
+#[derive(Clone, Debug, PartialEq, Eq, Hash)]
+#[non_exhaustive]
+pub struct Closing<L = List> {
+    /// None, over or granted.
+    pub outcome: Outcome<L>,
+}
+
+/// What a closing comes to. There are these three, in document 01 and in what is asked for after it.
+#[derive(Clone, Debug, PartialEq, Eq, Hash)]
+pub enum Outcome<L = List> {
     /// No argument is known.
     None,
     /// Too large to say.
     Over,
     /// The types that the facts give.
-    Granted(List),
+    Granted(L),
 }
 
-/// A closing's answer, its list left as codes.
-#[derive(Clone, Copy, Debug, PartialEq, Eq)]
-pub enum Answer {
-    /// No argument is known.
-    None,
-    /// Too large to say.
-    Over,
-    /// The list stands at the start of the codes.
-    Granted {
-        /// Types of the list, one for each argument word.
-        entries: u32,
-        /// Codes of the list; what lies beyond them in the buffer is as it was.
-        codes: usize,
-        /// What is left of the budget of 8,192.
-        left: u32,
-        /// 32 bytes for each entry.
-        head_length: u32,
-    },
+impl<L> Closing<L> {
+    /// The list, if one is granted.
+    ///
+    /// ```
+    /// assert!(argcol::Session::new(64)?.close(&[], 0, None)?.list().is_none());
+    /// # Ok::<(), argcol::Error>(())
+    /// ```
+    pub fn list(&self) -> Option<&L> {
+        match &self.outcome {
+            Outcome::Granted(list) => Some(list),
+            Outcome::None | Outcome::Over => None,
+        }
+    }
+
+    /// The list by value, if one is granted.
+    ///
+    /// ```
+    /// let closing = argcol::Session::new(64)?.close(&[0x60, 0x24, 0x36, 0x10], 0, None)?;
+    /// assert_eq!(closing.into_list().unwrap().into_types(), [argcol::Type::Uint(256)]);
+    /// # Ok::<(), argcol::Error>(())
+    /// ```
+    pub fn into_list(self) -> Option<L> {
+        match self.outcome {
+            Outcome::Granted(list) => Some(list),
+            Outcome::None | Outcome::Over => None,
+        }
+    }
 }
 
-/// A granted list.
-#[derive(Clone, Debug, PartialEq, Eq)]
-pub struct List {
-    types: Vec<Type>,
-    codes: Vec<u16>,
-    left: u32,
-    head_length: u32,
-}
-
-impl List {
-    /// From a granted closing's codes, without what lies beyond them.
-    pub(crate) fn new(codes: Vec<u16>, left: u32, head_length: u32) -> Self {
-        let types = Type::from_codes(&codes).expect("a granted list is of well-formed types");
-        Self { types, codes, left, head_length }
-    }
-
-    /// One type for each argument word, from word 0.
-    pub fn types(&self) -> &[Type] {
-        &self.types
-    }
-
-    /// The types alone.
-    pub fn into_types(self) -> Vec<Type> {
-        self.types
-    }
-
-    /// The same types as codes.
-    pub fn codes(&self) -> &[u16] {
-        &self.codes
-    }
-
+/// A granted list whose codes stand at the start of a slice.
+#[derive(Clone, Copy, Debug, PartialEq, Eq, Hash)]
+#[non_exhaustive]
+pub struct Codes {
+    /// Types of the list, one for each argument word.
+    pub entries: u32,
+    /// Codes of the list; what lies beyond them in the slice is as it was.
+    pub codes: usize,
     /// What is left of the budget of 8,192.
-    pub fn left(&self) -> u32 {
-        self.left
-    }
-
+    pub left: u32,
     /// 32 bytes for each entry.
-    pub fn head_length(&self) -> u32 {
-        self.head_length
+    pub head_length: u32,
+}
+
+impl Codes {
+    /// Of a granted closing and its slice.
+    pub(crate) fn new(said: &Answered, types: &[u16]) -> Result<Self, Error> {
+        let unknown = Error::Unknown { what: "a list's entries", number: said.entries };
+        let codes = length(said.entries, types).ok_or(unknown)?;
+        Ok(Self { entries: said.entries, codes, left: said.left, head_length: said.length })
     }
 }
 
 /// How many codes so many types take. They stand at the start; what lies beyond them isn't read.
-pub(crate) fn codes_of(entries: u32, codes: &[u16]) -> usize {
+fn length(entries: u32, codes: &[u16]) -> Option<usize> {
     let (mut length, mut wanted) = (0, entries as usize);
     while wanted > 0 {
-        wanted = wanted - 1 + parts(codes[length]);
+        wanted = wanted - 1 + parts(*codes.get(length)?);
         length += 1;
     }
-    length
+    Some(length)
 }
 
 /// How many types a code calls for.
@@ -93,22 +103,15 @@ fn parts(code: u16) -> usize {
     }
 }
 
-/// The canonical text, by the proved text call.
-impl fmt::Display for List {
-    fn fmt(&self, f: &mut fmt::Formatter<'_>) -> fmt::Result {
-        f.pad(&text(&self.codes).map_err(|_| fmt::Error)?)
-    }
-}
-
 /// The trace printer's lines, the last without its end.
 impl fmt::Display for Closing {
     fn fmt(&self, f: &mut fmt::Formatter<'_>) -> fmt::Result {
-        match self {
-            Self::None => f.write_str("none"),
-            Self::Over => f.write_str("over"),
-            Self::Granted(list) => {
-                write!(f, "args {} left {} head {}", list.types.len(), list.left, list.head_length)?;
-                list.types.iter().enumerate().try_for_each(|(word, ty)| write!(f, "\n{word} {ty}"))
+        match &self.outcome {
+            Outcome::None => f.pad("none"),
+            Outcome::Over => f.pad("over"),
+            Outcome::Granted(list) => {
+                write!(f, "args {} left {} head {}", list.types().len(), list.left(), list.head_length())?;
+                list.types().iter().enumerate().try_for_each(|(word, ty)| write!(f, "\n{word} {ty}"))
             }
         }
     }

@@ -1,16 +1,8 @@
-//! Labels, slots, memory entries and steps, to and from the numbers of document 01.
+//! Labels, to and from the numbers of document 01.
 
-use crate::word::{BadNumbers, Word};
-use std::fmt;
-
-/// Numbers of a label.
-pub const LABEL: usize = 13;
-/// Numbers of a stack slot: a word and a label.
-pub const SLOT: usize = 21;
-/// Numbers of a memory entry.
-pub const ENTRY: usize = 15;
-/// Numbers of a step.
-pub const STEP: usize = 59;
+use crate::{layout::LABEL, numbers::BadNumbers, word::Word};
+use alloc::{format, string::String};
+use core::fmt;
 
 /// What is known of a value that came out of the call data.
 #[derive(Clone, Copy, Debug, PartialEq, Eq, Hash)]
@@ -19,7 +11,8 @@ pub struct Arg {
     pub offset: u32,
     /// A record's number; 1 is the root.
     pub path: u32,
-    /// The constant that was added to the value. By 4, the selector's length, an offset becomes a place in the call data.
+    /// The constant that was added to the value. By 4, the selector's length, an offset becomes a place in the call
+    /// data.
     pub added: u32,
     /// The mask that the value was put through, if it was.
     pub mask: Option<Word>,
@@ -27,18 +20,33 @@ pub struct Arg {
 
 impl Arg {
     /// The argument at an offset of a path: nothing added, no mask.
-    pub fn at(offset: u32, path: u32) -> Self {
+    ///
+    /// ```
+    /// let arg = argcol::Arg::at(32, 1);
+    /// assert_eq!((arg.offset, arg.path, arg.added, arg.mask), (32, 1, 0, None));
+    /// ```
+    pub const fn at(offset: u32, path: u32) -> Self {
         Self { offset, path, added: 0, mask: None }
     }
 
     /// The same with this added value, in place of the one that it had.
-    pub fn with_added(self, added: u32) -> Self {
+    ///
+    /// ```
+    /// assert_eq!(argcol::Arg::at(0, 1).with_added(4).added, 4);
+    /// ```
+    pub const fn with_added(self, added: u32) -> Self {
         Self { added, ..self }
     }
 
     /// The same with this mask, in place of the one that it had.
-    pub fn masked(self, mask: impl Into<Word>) -> Self {
-        Self { mask: Some(mask.into()), ..self }
+    ///
+    /// ```
+    /// use argcol::{Arg, Word};
+    ///
+    /// assert_eq!(Arg::at(0, 1).masked(Word::new(0xff)).mask, Some(Word::new(255)));
+    /// ```
+    pub const fn masked(self, mask: Word) -> Self {
+        Self { mask: Some(mask), ..self }
     }
 }
 
@@ -56,6 +64,52 @@ pub enum Label {
     ZeroTest(Arg),
 }
 
+impl Label {
+    /// The argument, if it is the label of one or of its zero test.
+    ///
+    /// ```
+    /// use argcol::{Arg, Label};
+    ///
+    /// assert_eq!(Label::ZeroTest(Arg::at(0, 1)).arg(), Some(Arg::at(0, 1)));
+    /// assert_eq!(Label::CallData.arg(), None);
+    /// ```
+    pub const fn arg(self) -> Option<Arg> {
+        match self {
+            Self::Arg(arg) | Self::ZeroTest(arg) => Some(arg),
+            Self::None | Self::CallData => None,
+        }
+    }
+
+    /// To numbers that are all 0.
+    #[inline]
+    pub(crate) fn put(self, out: &mut [u32; LABEL]) {
+        let (kind, arg) = match self {
+            Self::None => return,
+            Self::CallData => return out[0] = 1,
+            Self::Arg(arg) => (2, arg),
+            Self::ZeroTest(arg) => (3, arg),
+        };
+        [out[0], out[1], out[2], out[3]] = [kind, arg.offset, arg.path, arg.added];
+        if let Some(mask) = arg.mask {
+            out[4] = 1;
+            out[5..].copy_from_slice(&mask.0);
+        }
+    }
+
+    /// From well-formed numbers.
+    #[inline]
+    pub(crate) fn read(numbers: &[u32; LABEL]) -> Self {
+        let [kind, offset, path, added, masked, mask @ ..] = *numbers;
+        let arg = Arg { offset, path, added, mask: (masked == 1).then_some(Word(mask)) };
+        match kind {
+            1 => Self::CallData,
+            2 => Self::Arg(arg),
+            3 => Self::ZeroTest(arg),
+            _ => Self::None,
+        }
+    }
+}
+
 impl From<Arg> for Label {
     fn from(arg: Arg) -> Self {
         Self::Arg(arg)
@@ -65,20 +119,7 @@ impl From<Arg> for Label {
 impl From<Label> for [u32; LABEL] {
     fn from(label: Label) -> Self {
         let mut out = [0; LABEL];
-        let (kind, arg) = match label {
-            Label::None => (0, None),
-            Label::CallData => (1, None),
-            Label::Arg(arg) => (2, Some(arg)),
-            Label::ZeroTest(arg) => (3, Some(arg)),
-        };
-        out[0] = kind;
-        if let Some(arg) = arg {
-            out[1..4].copy_from_slice(&[arg.offset, arg.path, arg.added]);
-            if let Some(mask) = arg.mask {
-                out[4] = 1;
-                out[5..].copy_from_slice(&mask.0);
-            }
-        }
+        label.put(&mut out);
         out
     }
 }
@@ -87,16 +128,14 @@ impl TryFrom<&[u32; LABEL]> for Label {
     type Error = BadNumbers;
 
     fn try_from(numbers: &[u32; LABEL]) -> Result<Self, BadNumbers> {
-        let [kind, offset, path, added, masked, mask @ ..] = *numbers;
-        let arg = Arg { offset, path, added, mask: (masked == 1).then_some(Word(mask)) };
-        let label = match kind {
-            0 => Self::None,
-            1 => Self::CallData,
-            2 => Self::Arg(arg),
-            3 => Self::ZeroTest(arg),
-            _ => return Err(BadNumbers("a label's kind is 0 to 3")),
-        };
-        if <[u32; LABEL]>::from(label) == *numbers { Ok(label) } else { Err(BadNumbers("what a label doesn't use is 0")) }
+        let label = Self::read(numbers);
+        if numbers[0] > 3 {
+            Err(BadNumbers("a label's kind is 0 to 3"))
+        } else if <[u32; LABEL]>::from(label) == *numbers {
+            Ok(label)
+        } else {
+            Err(BadNumbers("what a label doesn't use is 0"))
+        }
     }
 }
 
@@ -110,127 +149,7 @@ impl fmt::Display for Label {
             Self::ZeroTest(arg) => ("zero-test", arg),
         };
         let added = if arg.added == 0 { String::new() } else { format!(" add {}", arg.added) };
-        let mask = arg.mask.map_or(String::new(), |mask| format!(" mask {mask}"));
+        let mask = arg.mask.map_or(String::new(), |mask| format!(" mask {mask:#x}"));
         f.pad(&format!("{name} {} path {}{added}{mask}", arg.offset, arg.path))
-    }
-}
-
-/// A stack slot, or an operand of a step.
-#[derive(Clone, Copy, Debug, Default, PartialEq, Eq, Hash)]
-pub struct Slot {
-    /// The value.
-    pub word: Word,
-    /// Where it came from.
-    pub label: Label,
-}
-
-impl Slot {
-    /// A word with a label.
-    pub fn new(word: impl Into<Word>, label: impl Into<Label>) -> Self {
-        Self { word: word.into(), label: label.into() }
-    }
-
-    /// A word without a label.
-    pub fn plain(word: impl Into<Word>) -> Self {
-        Self { word: word.into(), label: Label::None }
-    }
-}
-
-impl From<Slot> for [u32; SLOT] {
-    fn from(slot: Slot) -> Self {
-        let mut out = [0; SLOT];
-        out[..8].copy_from_slice(&slot.word.0);
-        out[8..].copy_from_slice(&<[u32; LABEL]>::from(slot.label));
-        out
-    }
-}
-
-impl TryFrom<&[u32; SLOT]> for Slot {
-    type Error = BadNumbers;
-
-    fn try_from(numbers: &[u32; SLOT]) -> Result<Self, BadNumbers> {
-        Ok(Self { word: Word(*numbers.first_chunk().unwrap()), label: numbers.last_chunk().unwrap().try_into()? })
-    }
-}
-
-/// A memory entry.
-#[derive(Clone, Copy, Debug, Default, PartialEq, Eq, Hash)]
-pub struct Entry {
-    /// Its place in memory, in bytes.
-    pub offset: u32,
-    /// Its bytes became the 32-byte word 1.
-    pub replaced: bool,
-    /// Where its bytes came from.
-    pub label: Label,
-}
-
-impl From<Entry> for [u32; ENTRY] {
-    fn from(entry: Entry) -> Self {
-        let mut out = [0; ENTRY];
-        (out[0], out[1]) = (entry.offset, u32::from(entry.replaced));
-        out[2..].copy_from_slice(&<[u32; LABEL]>::from(entry.label));
-        out
-    }
-}
-
-impl TryFrom<&[u32; ENTRY]> for Entry {
-    type Error = BadNumbers;
-
-    fn try_from(numbers: &[u32; ENTRY]) -> Result<Self, BadNumbers> {
-        if numbers[1] > 1 {
-            return Err(BadNumbers("a replaced mark is 0 or 1"));
-        }
-        Ok(Self { offset: numbers[0], replaced: numbers[1] == 1, label: numbers.last_chunk().unwrap().try_into()? })
-    }
-}
-
-/// What the machine hands over after an opcode ran.
-#[derive(Clone, Copy, Debug, Default, PartialEq, Eq, Hash)]
-pub struct Step {
-    /// The opcode's byte.
-    pub op: u8,
-    /// The place in the code after the step, at which the next opcode is read.
-    pub pc: u32,
-    /// As the published `StepResult` has them: mostly what was taken off the stack first and second, but for a CALLDATACOPY its place in the call data and
-    /// then the one in memory.
-    pub operands: [Slot; 2],
-    /// The memory entry that a copy finds. It counts from 0, as slices do; document 01's number and the text form of traces count from 1.
-    pub pick: Option<u32>,
-    /// The label of the one chunk that covers exactly bytes 0 to 32 of a memory load.
-    pub load: Option<Label>,
-}
-
-impl From<&Step> for [u32; STEP] {
-    fn from(step: &Step) -> Self {
-        let mut out = [0; STEP];
-        (out[0], out[1]) = (u32::from(step.op), step.pc);
-        out[2..23].copy_from_slice(&<[u32; SLOT]>::from(step.operands[0]));
-        out[23..44].copy_from_slice(&<[u32; SLOT]>::from(step.operands[1]));
-        out[44] = step.pick.map_or(0, |at| at.saturating_add(1));
-        if let Some(label) = step.load {
-            out[45] = 1;
-            out[46..].copy_from_slice(&<[u32; LABEL]>::from(label));
-        }
-        out
-    }
-}
-
-impl TryFrom<&[u32; STEP]> for Step {
-    type Error = BadNumbers;
-
-    fn try_from(numbers: &[u32; STEP]) -> Result<Self, BadNumbers> {
-        let label = Label::try_from(numbers.last_chunk::<LABEL>().unwrap())?;
-        let load = match (numbers[45], label) {
-            (0, Label::None) => None,
-            (1, label) => Some(label),
-            _ => return Err(BadNumbers("the load flag is 0 or 1, and without it there is no label")),
-        };
-        Ok(Self {
-            op: numbers[0].try_into().map_err(|_| BadNumbers("an opcode is at most 255"))?,
-            pc: numbers[1],
-            operands: [numbers[2..].first_chunk().unwrap().try_into()?, numbers[23..].first_chunk().unwrap().try_into()?],
-            pick: numbers[44].checked_sub(1),
-            load,
-        })
     }
 }

@@ -1,50 +1,77 @@
 //! The argument column's proved core for a Rust host.
 //!
-//! A [`Session`] holds the facts about one function's arguments. The machine that runs the bytecode hands it one labelled [`Step`] after the other, with
-//! the stack and the memory entries as they are after the opcode ran; a step may put labels there, which the machine carries on. [`Session::close`] gives
-//! the list of ABI types. Every call is either taken or [`Refused`] by one question, and a refused call changes nothing.
+//! A [`Session`] holds the facts about one function's arguments. The machine that runs the bytecode hands it one
+//! labelled [`Step`] after the other, with its [`Stack`] and its [`Memory`] as they are after the opcode ran; a step
+//! may put labels there, which the machine carries on. [`Session::close`] gives the list of ABI types, and
+//! [`Session::facts`] what is known so far. Every call is either taken or [`Refused`] by one question, and a refused
+//! call changes nothing.
 //!
-//! The calls are functions of a static library that is proved in Rattle (`crates/exports`); this crate converts and links, and is not proved. They take no
-//! memory and have no state of their own, so sessions may run side by side. They call themselves once for each level of the facts: the deepest facts that a
-//! table can hold (16,384 records in one chain) take between 1.0 and 1.13 MB of the calling thread's stack.
+//! The calls are functions of a static library that is proved in Rattle (`crates/argcol`); this crate converts and
+//! links, and is not proved. Crate and library have a version, which a session and a text call compare: another one is
+//! an [`Error::Version`]. The calls take no memory and have no state of their own, so that sessions may run side by
+//! side. They call themselves once for each level of the facts, with 64 bytes of the calling thread's stack for each: the
+//! deepest facts that a table can hold (16,384 records in one chain) take 1.06 MB.
 //!
 //! Two loads and a multiplication by 32, which an array's decoder does:
 //!
 //! ```
-//! use argcol::{Arg, Closing, Session, Slot, Step};
+//! use argcol::{Arg, MOST_RECORDS, Memory, Session, Slot, Stack, Step, op};
 //!
-//! const CALLDATALOAD: u8 = 0x35;
-//! const MUL: u8 = 0x02;
-//!
-//! let mut session = Session::new(1_480)?;
+//! let mut session = Session::growing(64, MOST_RECORDS)?;
+//! let (mut stack, mut memory) = (Stack::from([Slot::plain(5)]), Memory::new());
 //! let steps = [
-//!     Step { op: CALLDATALOAD, operands: [Slot::plain(4u32), Slot::default()], ..Step::default() },
-//!     Step { op: CALLDATALOAD, operands: [Slot::new(0u32, Arg::at(0, 1).with_added(4)), Slot::default()], ..Step::default() },
-//!     Step { op: MUL, operands: [Slot::new(0u32, Arg::at(0, 2)), Slot::plain(32u32)], ..Step::default() },
+//!     Step::new(op::CALLDATALOAD).on(Slot::plain(4)),
+//!     Step::new(op::CALLDATALOAD).on(Slot::plain(0).with_label(Arg::at(0, 1).with_added(4))),
+//!     Step::new(op::MUL).on_both(Slot::plain(0).with_label(Arg::at(0, 2)), Slot::plain(32)),
 //! ];
 //! for step in &steps {
-//!     session.step(&[], &mut [Slot::plain(5u32)], &mut [], step)?;
+//!     session.step(&[], &mut stack, &mut memory, step)?;
 //! }
-//! let Closing::Granted(list) = session.close(&[], 0, None)? else { panic!("an argument is known") };
+//! let list = session.close(&[], 0, None)?.into_list().expect("an argument is known");
 //! assert_eq!(list.to_string(), "uint256[]");
 //! assert_eq!((list.types().len(), list.left(), list.head_length()), (1, 8189, 32));
-//! # Ok::<(), argcol::Refused>(())
+//! # Ok::<(), argcol::Error>(())
 //! ```
 
-#![warn(missing_docs)]
+#![no_std]
+
+extern crate alloc;
 
 mod closing;
+mod entry;
+mod error;
+mod fact;
+mod held;
 mod label;
+mod layout;
+mod list;
+mod memory;
+mod numbers;
+pub mod op;
 pub mod raw;
 mod refused;
 mod session;
+mod slot;
+mod stack;
+mod step;
 pub mod trace;
 mod types;
 mod word;
 
-pub use closing::{Answer, Closing, List};
-pub use label::{Arg, ENTRY, Entry, LABEL, Label, SLOT, STEP, Slot, Step};
+pub use closing::{Closing, Codes, Outcome};
+pub use entry::Entry;
+pub use error::Error;
+pub use fact::{Fact, Facts, Kind};
+pub use label::{Arg, Label};
+pub use layout::{ENTRY, LABEL, MOST_CODE, MOST_ENTRIES, MOST_RECORDS, MOST_SLOTS, RECORD, SLOT, STEP, TYPES};
+pub use list::List;
+pub use memory::{Entries, IntoEntries, Memory};
+pub use numbers::{BadNumbers, NoSuchPlace};
+pub use raw::Head;
 pub use refused::Refused;
-pub use session::{MOST_RECORDS, RECORD, Session, Taken};
-pub use types::{TYPES, Type, text, text_into};
-pub use word::{BadNumbers, Word};
+pub use session::{Session, Taken};
+pub use slot::Slot;
+pub use stack::{IntoSlots, Slots, Stack};
+pub use step::Step;
+pub use types::{Type, text, text_into};
+pub use word::{ParseWordError, Word};

@@ -1,7 +1,35 @@
-use std::{error::Error, fmt};
+use core::fmt;
 
 /// A refusal: the first question of document 01 whose answer was "no". Whatever the call was handed is as it was.
-#[derive(Clone, Copy, Debug, PartialEq, Eq, Hash)]
+///
+/// Later versions add refusals, so that a `match` has an arm for others:
+///
+/// ```
+/// use argcol::Refused;
+///
+/// fn is_for_want_of_room(refused: Refused) -> bool {
+///     match refused {
+///         Refused::NoRoom | Refused::TextTooLong => true,
+///         _ => false,
+///     }
+/// }
+/// assert!(is_for_want_of_room(Refused::NoRoom));
+/// ```
+///
+/// Without it, nothing is compiled, whatever is listed:
+///
+/// ```compile_fail,E0004
+/// use argcol::Refused::*;
+///
+/// fn number(refused: argcol::Refused) -> u32 {
+///     match refused {
+///         RecordCount | Unsound | LongCode | Sizes | Labels | Step | EmptyStack | NoRoom => 1,
+///         ShortTypes | NotTypes | TextTooLong => 2,
+///     }
+/// }
+/// ```
+#[derive(Clone, Copy, Debug, PartialEq, Eq, Hash, PartialOrd, Ord)]
+#[non_exhaustive]
 pub enum Refused {
     /// The fact table is not 1 to 16,384 records of 11 numbers.
     RecordCount = 1,
@@ -29,7 +57,7 @@ pub enum Refused {
 
 impl Refused {
     /// All refusals, by their numbers.
-    pub const ALL: [Self; 11] = [
+    pub const ALL: &'static [Self] = &[
         Self::RecordCount,
         Self::Unsound,
         Self::LongCode,
@@ -43,45 +71,59 @@ impl Refused {
         Self::TextTooLong,
     ];
 
-    /// Document 01's number, 1 to 11.
-    pub fn number(self) -> u32 {
+    /// Document 01's number of the question.
+    ///
+    /// ```
+    /// assert_eq!(argcol::Refused::NoRoom.number(), 8);
+    /// ```
+    pub const fn number(self) -> u32 {
         self as u32
     }
 
-    /// The refusal of a number, if it has one.
+    /// The refusal of a number, if this crate knows one.
+    ///
+    /// ```
+    /// use argcol::Refused;
+    ///
+    /// assert_eq!(Refused::from_number(8), Some(Refused::NoRoom));
+    /// assert_eq!(Refused::from_number(0), None);
+    /// ```
     pub fn from_number(number: u32) -> Option<Self> {
-        Self::ALL.into_iter().find(|refused| refused.number() == number)
+        Self::ALL.iter().copied().find(|refused| refused.number() == number)
     }
 
-    /// The question, in words.
-    pub fn question(self) -> &'static str {
+    /// What is wrong, in words.
+    ///
+    /// ```
+    /// assert_eq!(argcol::Refused::LongCode.reason(), "the code has more than 65,536 bytes");
+    /// ```
+    pub const fn reason(self) -> &'static str {
         match self {
-            Self::RecordCount => "is the fact table a multiple of 11 numbers with 1 to 16,384 records?",
-            Self::Unsound => "is the fact table sound?",
-            Self::LongCode => "is the code at most 65,536 bytes?",
-            Self::Sizes => "are stack and memory whole slots and entries, at most 1,024 each, and the step 59 numbers?",
-            Self::Labels => "are all labels and replaced marks well formed, each path a used record?",
-            Self::Step => "is op at most 255, pick at most the entry count, the load flag as its label, a copy's second word below 2^32?",
-            Self::EmptyStack => "has the stack a slot for what this opcode gives?",
-            Self::NoRoom => "are enough records free?",
-            Self::ShortTypes => "has the type slice 8,192 numbers or more?",
-            Self::NotTypes => "is the list a whole number of well-formed types, at most 8,192 codes?",
-            Self::TextTooLong => "does the text fit?",
-        }
-    }
-
-    pub(crate) fn check(number: u32) -> Result<(), Self> {
-        match number {
-            0 => Ok(()),
-            _ => Err(Self::from_number(number).expect("the core answers by document 01's numbers")),
+            Self::RecordCount => "the fact table is not 1 to 16,384 records of 11 numbers",
+            Self::Unsound => "the head or the fact table is not sound",
+            Self::LongCode => "the code has more than 65,536 bytes",
+            Self::Sizes => {
+                "the stack or the memory is not whole slots or entries, or more than 1,024 of them, or the step is \
+                 not 59 numbers"
+            }
+            Self::Labels => "a label or a replaced mark is not well formed, or a label's path is no used record",
+            Self::Step => {
+                "the opcode is above 255, the pick is no entry, the load flag does not go with its label, or the \
+                 second word of a CALLDATACOPY is 2^32 or more"
+            }
+            Self::EmptyStack => "the stack has no slot for what the opcode gives",
+            Self::NoRoom => "the call adds more records than are free",
+            Self::ShortTypes => "the type slice has fewer than 8,192 numbers",
+            Self::NotTypes => "the codes are no whole number of well-formed types, or more than 8,192",
+            Self::TextTooLong => "the text is longer than the slice for it",
         }
     }
 }
 
 impl fmt::Display for Refused {
     fn fmt(&self, f: &mut fmt::Formatter<'_>) -> fmt::Result {
-        write!(f, "refused by question {}: {}", self.number(), self.question())
+        write!(f, "refused by question {}: {}", self.number(), self.reason())
     }
 }
 
-impl Error for Refused {}
+impl core::error::Error for Refused {}

@@ -1,6 +1,6 @@
 //! The opcodes' names of the text form, against a list of its own.
 
-use argcol::trace::Trace;
+use argcol::{op, trace::Trace};
 
 /// From the Yellow Paper's appendix H (Shanghai), each name with its byte; PUSHn, DUPn, SWAPn and LOGn are below.
 const YELLOW_PAPER: &str = "
@@ -24,7 +24,9 @@ fn listed() -> Vec<Option<String>> {
         let byte = usize::from_str_radix(pair[0], 16).unwrap();
         assert_eq!(names[byte].replace(pair[1].to_string()), None);
     }
-    for (name, at, numbers) in [("PUSH", 0x5f, 1..=32), ("DUP", 0x7f, 1..=16), ("SWAP", 0x8f, 1..=16), ("LOG", 0xa0, 0..=4)] {
+    for (name, at, numbers) in
+        [("PUSH", 0x5f, 1..=32), ("DUP", 0x7f, 1..=16), ("SWAP", 0x8f, 1..=16), ("LOG", 0xa0, 0..=4)]
+    {
         for number in numbers {
             assert_eq!(names[at + number].replace(format!("{name}{number}")), None);
         }
@@ -34,7 +36,10 @@ fn listed() -> Vec<Option<String>> {
 
 #[test]
 fn names_and_bytes() {
+    assert_eq!((op::STOP, op::PUSH0, op::SWAP16, op::LOG4, op::SELFDESTRUCT), (0, 0x5f, 0x9f, 0xa4, 0xff));
     for (byte, name) in listed().into_iter().enumerate() {
+        assert_eq!(op::name(byte as u8), name.as_deref());
+        assert!(name.as_deref().is_none_or(|name| op::by_name(name) == Some(byte as u8)));
         let shown = name.unwrap_or_else(|| format!("0x{byte:x}"));
         // by its name and by its number, the text form has the name
         for text in [format!("step {shown}\n"), format!("step {byte}\n"), format!("step 0x{byte:02x}\n")] {
@@ -42,7 +47,9 @@ fn names_and_bytes() {
             assert_eq!((trace.steps[0].numbers[0] as usize, trace.to_text()), (byte, format!("step {shown}\n")));
         }
     }
-    for text in ["step mul", "step SHA3", "step PUSH33", "step DUP0", "step SWAP17", "step LOG5", "step DIFFICULTY", "step"] {
+    for text in
+        ["step mul", "step SHA3", "step PUSH33", "step DUP0", "step SWAP17", "step LOG5", "step DIFFICULTY", "step"]
+    {
         assert!(Trace::from_text(text).is_err(), "{text}");
     }
 }

@@ -2,35 +2,30 @@
 
 mod common;
 
-use argcol::{
-    raw::{Answered, Head},
-    *,
-};
+use argcol::*;
 use common::*;
 use std::fmt::Debug;
-
-fn held(session: &Session) -> (u32, bool, Vec<u32>) {
-    (session.used(), session.active(), session.table().to_vec())
-}
 
 /// The refusal of a call on a session and on what it is lent.
 fn refused<L: Clone + PartialEq + Debug, T: Debug>(
     session: &mut Session,
     mut lent: L,
-    call: impl FnOnce(&mut Session, &mut L) -> Result<T, Refused>,
+    call: impl FnOnce(&mut Session, &mut L) -> Result<T, Error>,
 ) -> Refused {
-    let before = (held(session), lent.clone());
-    let refused = call(session, &mut lent).unwrap_err();
-    assert_eq!((held(session), lent), before, "a refused call changes nothing");
-    refused
+    let before = (session.clone(), lent.clone());
+    let error = call(session, &mut lent).unwrap_err();
+    assert!((&*session, &lent) == (&before.0, &before.1), "a refused call changes nothing");
+    error.refused().unwrap_or_else(|| panic!("{error}"))
 }
 
 fn step(session: &mut Session, code: &[u8], stack: &[Slot], memory: &[Entry], step: &Step) -> Refused {
-    refused(session, (stack.to_vec(), memory.to_vec()), |session, (stack, memory)| session.step(code, stack, memory, step))
+    let lent = (Stack::from(stack), Memory::from(memory));
+    refused(session, lent, |session, (stack, memory)| session.step(code, stack, memory, step))
 }
 
 fn numbers(session: &mut Session, stack: &[u32], memory: &[u32], step: &[u32]) -> Refused {
-    refused(session, (stack.to_vec(), memory.to_vec()), |session, (stack, memory)| session.step_numbers(&[], stack, memory, step))
+    let lent = (stack.to_vec(), memory.to_vec());
+    refused(session, lent, |session, (stack, memory)| session.step_numbers(&[], stack, memory, step))
 }
 
 fn close_into(session: &mut Session, code: &[u8], types: usize) -> Refused {
@@ -44,42 +39,51 @@ fn close(session: &mut Session, code: &[u8]) -> Refused {
     said
 }
 
+/// No session has such a head and table, nor does any call take them: each of the C functions refuses by this number.
+fn no_session(head: Head, table: &[u32], number: u32) {
+    let said = Session::from_numbers(head, table.to_vec()).unwrap_err();
+    assert_eq!(said.refused().map(Refused::number), Some(number), "{head:?} {} numbers", table.len());
+    let (mut after, mut lent, mut types) = (head, table.to_vec(), vec![3; TYPES]);
+    let (mut stack, mut memory) = (vec![0; SLOT], vec![0; ENTRY]);
+    let load = <[u32; STEP]>::from(&load(4));
+    assert_eq!(raw::step(&mut after, &mut lent, &[], &mut stack, &mut memory, &load), number, "{head:?} {table:?}");
+    let said = raw::closing(&mut after, &mut lent, &TWO_WORDS, 0, 0, &[0; 8], &mut types);
+    assert_eq!((said.number, said.kind, said.entries, said.left, said.length), (number, 0, 0, 0, 0));
+    assert_eq!((after, &lent[..]), (head, table));
+    assert_eq!((stack, memory, types), (vec![0; SLOT], vec![0; ENTRY], vec![3; TYPES]));
+}
+
 #[test]
 fn question_1_the_record_count() {
     for records in [0, MOST_RECORDS + 1, usize::MAX] {
-        assert_eq!(Session::new(records).unwrap_err(), Refused::RecordCount);
+        let said = [Session::new(records), Session::growing(records, 8), Session::growing(8, records)];
+        said.into_iter().for_each(|said| assert_eq!(said.unwrap_err(), Refused::RecordCount.into()));
     }
     for length in [0, 1, 10, 12, RECORD * (MOST_RECORDS + 1)] {
-        let mut session = Session::from_numbers(1, 1, vec![0; length]);
-        assert_eq!(step(&mut session, &[], &[Slot::default()], &[Entry::default()], &load(4)).number(), 1);
-        assert_eq!(close(&mut session, &[]), Refused::RecordCount);
-        assert_eq!(refused(&mut session, (), |session, ()| session.reset()), Refused::RecordCount);
+        no_session(Head::new(1, 1), &vec![0; length], 1);
+        let (mut head, mut table) = (Head::new(7, 8), vec![9; length]);
+        assert_eq!(raw::fresh(&mut head, &mut table), 1);
+        assert_eq!((head, table), (Head::new(7, 8), vec![9; length]));
     }
-}
-
-/// A step and a closing of the C functions, which show the head as it is.
-fn unsound(head: Head, table: &[u32]) {
-    let (mut after, mut numbers, mut types) = (head, table.to_vec(), vec![3; TYPES]);
-    let (mut stack, mut memory) = (vec![0; SLOT], vec![0; ENTRY]);
-    assert_eq!(raw::step(&mut after, &mut numbers, &[], &mut stack, &mut memory, &<[u32; STEP]>::from(&load(4))), 2, "{head:?} {table:?}");
-    let said = raw::closing(&mut after, &mut numbers, &TWO_WORDS, 0, 0, &[0; 8], &mut types);
-    assert_eq!(said, Answered { number: 2, ..Answered::default() }, "{head:?} {table:?}");
-    assert_eq!((after, &numbers[..]), (head, table));
-    assert_eq!((stack, memory, types), (vec![0; SLOT], vec![0; ENTRY], vec![3; TYPES]));
+    let mut session = Session::new(8).unwrap();
+    for records in [MOST_RECORDS + 1, usize::MAX] {
+        assert_eq!(refused(&mut session, (), |session, ()| session.grow(records)), Refused::RecordCount);
+    }
 }
 
 #[test]
 fn question_2_unsound_tables() {
     // a root with a named child at key 0 and an array of one at key 32; the fourth record is free
-    let mut table = [ROOT, [0, 1, 0, 3, 1, 0, 0, 0, 0, 1256, 5], [32, 1, 0, 0, 1, 0, 0, 2, 1, 0, 0], [0; RECORD]].concat();
+    let child = [0, 1, 0, 3, 1, 0, 0, 0, 0, 1256, 5];
+    let mut table = [ROOT, child, [32, 1, 0, 0, 1, 0, 0, 2, 1, 0, 0], [0; RECORD]].concat();
     table[2] = 2;
-    let sound = Head { used: 3, active: 1 };
-    assert_eq!(raw::step(&mut sound.clone(), &mut table.clone(), &[], &mut [0; SLOT], &mut [], &<[u32; STEP]>::from(&load(4))), 0);
+    assert!(Session::from_numbers(Head::new(3, 1), table.clone()).is_ok());
+    assert!(Session::from_numbers(Head::new(3, 0), table.clone()).is_ok());
     for active in [2, u32::MAX] {
-        unsound(Head { active, ..sound }, &table);
+        no_session(Head::new(3, active), &table, 2);
     }
     for used in [0, 1, 2, 4, 5, u32::MAX] {
-        unsound(Head { used, ..sound }, &table);
+        no_session(Head::new(used, 1), &table, 2);
     }
     let (root, child, array, free) = (0, RECORD, 2 * RECORD, 3 * RECORD);
     let fields = [
@@ -92,44 +96,44 @@ fn question_2_unsound_tables() {
         for (field, value) in edits {
             let mut table = table.clone();
             assert_ne!(std::mem::replace(&mut table[record + field], value), value);
-            unsound(sound, &table);
+            no_session(Head::new(3, 1), &table, 2);
         }
     }
-    let mut session = Session::from_numbers(0, 1, vec![0; RECORD]);
-    assert_eq!(step(&mut session, &[], &[], &[], &Step::default()), Refused::Unsound);
-    assert_eq!(close(&mut session, &[]).number(), 2);
 }
 
 #[test]
 fn question_3_long_code() {
     let mut session = Session::new(2).unwrap();
-    let long = vec![0; 65_537];
+    let long = vec![0; MOST_CODE + 1];
     assert_eq!(step(&mut session, &long, &[Slot::default()], &[], &load(4)).number(), 3);
     assert_eq!(close(&mut session, &long), Refused::LongCode);
-    assert!(session.step(&long[1..], &mut [], &mut [], &Step::default()).is_ok());
+    assert!(session.step(&long[1..], &mut Stack::new(), &mut Memory::new(), &Step::default()).is_ok());
     assert!(session.close(&long[1..], 0, None).is_ok());
 }
 
 #[test]
 fn question_4_sizes() {
     let mut session = Session::new(2).unwrap();
-    assert_eq!(step(&mut session, &[], &[Slot::default(); 1025], &[], &Step::default()).number(), 4);
-    assert_eq!(step(&mut session, &[], &[], &[Entry::default(); 1025], &Step::default()), Refused::Sizes);
-    for (stack, memory, step) in [(20, 0, STEP), (22, 0, STEP), (0, 14, STEP), (0, 16, STEP), (0, 0, STEP - 1), (0, 0, STEP + 1), (0, 0, 0)] {
+    assert_eq!(step(&mut session, &[], &[Slot::default(); MOST_SLOTS + 1], &[], &Step::default()).number(), 4);
+    assert_eq!(step(&mut session, &[], &[], &[Entry::default(); MOST_ENTRIES + 1], &Step::default()), Refused::Sizes);
+    for (stack, memory, step) in
+        [(20, 0, STEP), (22, 0, STEP), (0, 14, STEP), (0, 16, STEP), (0, 0, STEP - 1), (0, 0, STEP + 1), (0, 0, 0)]
+    {
         assert_eq!(numbers(&mut session, &vec![0; stack], &vec![0; memory], &vec![0; step]), Refused::Sizes);
     }
-    assert!(session.step(&[], &mut [Slot::default(); 1024], &mut [Entry::default(); 1024], &Step::default()).is_ok());
+    let (mut stack, mut memory) = ([Slot::default(); MOST_SLOTS].into(), [Entry::default(); MOST_ENTRIES].into());
+    assert!(session.step(&[], &mut stack, &mut memory, &Step::default()).is_ok());
 }
 
 #[test]
 fn question_5_labels() {
     let mut session = Session::new(2).unwrap();
     for path in [0, 2, u32::MAX] {
-        assert_eq!(step(&mut session, &[], &[Slot::new(0u32, Arg::at(0, path))], &[], &Step::default()).number(), 5);
-        let entry = Entry { label: Label::ZeroTest(Arg::at(0, path)), ..Entry::default() };
+        assert_eq!(step(&mut session, &[], &[labelled(Arg::at(0, path))], &[], &Step::default()).number(), 5);
+        let entry = Entry::at(0, Label::ZeroTest(Arg::at(0, path)));
         assert_eq!(step(&mut session, &[], &[], &[entry], &Step::default()), Refused::Labels);
-        let operands = [Slot::default(), Slot::new(0u32, Arg::at(0, path))];
-        assert_eq!(step(&mut session, &[], &[], &[], &Step { operands, ..Step::default() }), Refused::Labels);
+        let second = Step::default().on_both(Slot::default(), labelled(Arg::at(0, path)));
+        assert_eq!(step(&mut session, &[], &[], &[], &second), Refused::Labels);
     }
     let mut replaced = [0; ENTRY];
     replaced[1] = 2;
@@ -147,11 +151,11 @@ fn question_5_labels() {
 fn question_6_the_step() {
     let mut session = Session::new(2).unwrap();
     for pick in [0, u32::MAX] {
-        assert_eq!(step(&mut session, &[], &[], &[], &Step { pick: Some(pick), ..Step::default() }).number(), 6);
+        assert_eq!(step(&mut session, &[], &[], &[], &Step::default().picking(pick)).number(), 6);
     }
-    assert_eq!(step(&mut session, &[], &[], &[Entry::default()], &Step { pick: Some(1), ..Step::default() }), Refused::Step);
-    assert_eq!(step(&mut session, &[], &[], &[], &Step { load: Some(Label::None), ..Step::default() }), Refused::Step);
-    let copy = Step { op: CALLDATACOPY, operands: [Slot::default(), Slot::plain(1u64 << 32)], ..Step::default() };
+    assert_eq!(step(&mut session, &[], &[], &[Entry::default()], &Step::default().picking(1)), Refused::Step);
+    assert_eq!(step(&mut session, &[], &[], &[], &Step::default().loading(Label::None)), Refused::Step);
+    let copy = Step::new(op::CALLDATACOPY).on_both(Slot::default(), Slot::plain(1 << 32));
     assert_eq!(step(&mut session, &[], &[], &[], &copy), Refused::Step);
     // an opcode, a load flag, a load label without the flag
     for (at, value) in [(0, 256), (45, 2), (46, 1)] {
@@ -164,15 +168,15 @@ fn question_6_the_step() {
 #[test]
 fn question_7_an_empty_stack() {
     let mut session = Session::new(2).unwrap();
-    for op in [CALLDATALOAD, ADD, MUL, 0x1b, 0x10, 0x11, AND, ISZERO, MLOAD] {
-        assert_eq!(step(&mut session, &[], &[], &[Entry::default()], &Step { op, ..Step::default() }), Refused::EmptyStack);
+    for op in [op::CALLDATALOAD, op::ADD, op::MUL, op::SHL, op::LT, op::GT, op::AND, op::ISZERO, op::MLOAD] {
+        assert_eq!(step(&mut session, &[], &[], &[Entry::default()], &Step::new(op)), Refused::EmptyStack);
     }
 }
 
 #[test]
 fn questions_8_and_9_room_for_records_and_types() {
     let mut session = Session::new(2).unwrap();
-    session.step(&[], &mut [Slot::default()], &mut [], &load(4)).unwrap();
+    session.step(&[], &mut [Slot::default()].into(), &mut Memory::new(), &load(4)).unwrap();
     assert_eq!(step(&mut session, &[], &[Slot::default()], &[], &load(36)).number(), 8);
     assert_eq!(close(&mut session, &TWO_WORDS), Refused::NoRoom);
     for length in [0, 1, TYPES - 1] {
@@ -185,28 +189,33 @@ fn questions_8_and_9_room_for_records_and_types() {
 
 #[test]
 fn questions_10_and_11_texts() {
-    for codes in [&[5][..], &[0], &[16_385, 1], &[16_386, 1], &[1004], &[1264], &[3033], &[6], &[1, 5], &[1; TYPES + 1]] {
-        assert_eq!(text(codes).unwrap_err(), Refused::NotTypes, "{codes:?}");
+    for codes in [&[5][..], &[0], &[16_385, 1], &[16_386, 1], &[1004], &[1264], &[3033], &[6], &[1, 5], &[1; TYPES + 1]]
+    {
+        assert_eq!(text(codes).unwrap_err(), Refused::NotTypes.into(), "{codes:?}");
         let mut out = [b'x'; 70_000];
-        assert_eq!(text_into(codes, &mut out).unwrap_err().number(), 10);
+        assert_eq!(text_into(codes, &mut out).unwrap_err(), Refused::NotTypes.into());
         assert_eq!(out, [b'x'; 70_000]);
     }
     // uint256,address has 15 bytes
     for length in 0..15 {
         let mut out = vec![b'x'; length];
-        assert_eq!(text_into(&[1256, 2], &mut out).unwrap_err(), Refused::TextTooLong);
+        assert_eq!(text_into(&[1256, 2], &mut out).unwrap_err(), Refused::TextTooLong.into());
         assert_eq!(out, vec![b'x'; length]);
     }
     assert_eq!(text_into(&[1256, 2], &mut [0; 15]), Ok(15));
 }
 
 #[test]
-fn refusals_say_their_question() {
-    for (i, refused) in Refused::ALL.into_iter().enumerate() {
-        assert_eq!((refused.number() as usize, Refused::from_number(refused.number())), (i + 1, Some(refused)));
-        let said: &dyn std::error::Error = &refused;
-        assert!(said.to_string().starts_with(&format!("refused by question {}: ", i + 1)) && said.to_string().ends_with('?'));
+fn refusals_say_what_is_wrong() {
+    for (i, refused) in Refused::ALL.iter().enumerate() {
+        let number = refused.number();
+        assert_eq!((number as usize, Refused::from_number(number)), (i + 1, Some(*refused)));
+        let said: [Box<dyn std::error::Error>; 2] = [Box::new(*refused), Box::new(Error::from(*refused))];
+        for said in said.map(|said| said.to_string()) {
+            assert_eq!(said, format!("refused by question {number}: {}", refused.reason()));
+            assert!(!said.contains('?') && !said.ends_with('.'), "a statement: {said}");
+        }
     }
-    assert_eq!(Refused::LongCode.to_string(), "refused by question 3: is the code at most 65,536 bytes?");
+    assert_eq!(Refused::LongCode.to_string(), "refused by question 3: the code has more than 65,536 bytes");
     assert_eq!([0, 12, 100].map(Refused::from_number), [None; 3]);
 }

@@ -1,9 +1,12 @@
-//! The stored traces of the program `replay`, those of the published Rust's runs among them, with the lines that the trace printer prints for each.
+//! The stored traces of the program `replay`, those of the published Rust's runs among them, with the lines that the
+//! trace printer prints for each.
 
 use argcol::trace::Trace;
 
-/// Cut off or too large behind a step that is refused: the printer meets the step first, and `from_bytes` takes no such trace.
-const REFUSED_BEFORE: [&str; 3] = ["order: a bad op, then a cut-off step", "order: a bad op, then 257 slots", "order: a bad op, then bytes"];
+/// Cut off or too large behind a step that is refused: the printer meets the step first, and `from_bytes` takes no such
+/// trace.
+const REFUSED_BEFORE: [&str; 3] =
+    ["order: a bad op, then a cut-off step", "order: a bad op, then 257 slots", "order: a bad op, then bytes"];
 
 fn read(file: &str) -> Vec<u8> {
     std::fs::read(format!("{}/../../{file}", env!("CARGO_MANIFEST_DIR"))).unwrap()
@@ -19,8 +22,8 @@ fn number(from: &mut &[u8]) -> usize {
     u32::from_le_bytes(take(from, 4).try_into().unwrap()) as usize
 }
 
-/// The next trace, as tools/replay.py writes it: a name in 40 bytes, its length, how many bytes the trace has, and these in runs: how many zeros, how many
-/// other bytes, and these.
+/// The next trace, as tools/replay.py writes it: a name in 40 bytes, its length, how many bytes the trace has, and
+/// these in runs: how many zeros, how many other bytes, and these.
 fn next_trace(from: &mut &[u8]) -> (String, Vec<u8>) {
     let name = take(from, 40);
     let (name_length, length) = (number(from), number(from));
@@ -42,7 +45,7 @@ fn lines(name: &str, bytes: &[u8]) -> String {
     assert!(!REFUSED_BEFORE.contains(&name));
     assert_eq!(Trace::from_text(&trace.to_text()).as_ref(), Ok(&trace), "{name}");
     assert!(trace.to_bytes() == bytes, "{name}");
-    trace.run()
+    trace.run().unwrap()
 }
 
 /// Runs all traces of a file, and tells how many there are.

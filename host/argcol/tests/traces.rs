@@ -1,8 +1,8 @@
 //! Traces as text and as the trace printer's bytes.
 
 use argcol::{
-    Arg, ENTRY, Entry, Label, SLOT, STEP, Slot, Step, Word,
-    trace::{CODE_LIMIT, COUNT_LIMIT, Trace, TraceStep},
+    Arg, ENTRY, Entry, Label, SLOT, STEP, Slot, Step, Word, op,
+    trace::{CODE_LIMIT, COUNT_LIMIT, NUMBERS_LIMIT, Trace, TraceStep},
 };
 
 const P1: &str = include_str!("../traces/p1.trace");
@@ -12,7 +12,7 @@ fn p1_is_the_printers_own_input() {
     let trace = Trace::from_text(P1).unwrap();
     let printer = concat!(env!("CARGO_MANIFEST_DIR"), "/../../crates/trace_printer");
     assert_eq!(trace.to_bytes(), std::fs::read(format!("{printer}/stdin")).unwrap());
-    assert_eq!(trace.run(), std::fs::read_to_string(format!("{printer}/stdout")).unwrap());
+    assert_eq!(trace.run().unwrap(), std::fs::read_to_string(format!("{printer}/stdout")).unwrap());
 }
 
 /// A generator of any numbers, small ones often.
@@ -71,7 +71,8 @@ fn there_and_back() {
 #[test]
 fn text_is_plain() {
     let trace = Trace::from_text(P1).unwrap();
-    let lines: Vec<&str> = P1.lines().map(|line| line.split('#').next().unwrap().trim_end()).filter(|line| !line.is_empty()).collect();
+    let lines: Vec<&str> =
+        P1.lines().map(|line| line.split('#').next().unwrap().trim_end()).filter(|line| !line.is_empty()).collect();
     assert_eq!(trace.to_text(), lines.join("\n") + "\n");
     let text = "code 0x6080\nstart 12\npacked 10\nstep 0x100 pc 7\n  first 0 arg 0 path 2 add 4 mask 0xffffffffff\n  pick 1\n  load calldata\n  slot 5 zero-test 4 path 1\n  entry 64 replaced 1 calldata\n";
     assert_eq!(Trace::from_text(text).unwrap().to_text(), text);
@@ -84,13 +85,12 @@ fn the_documented_form() {
     let lines = source.lines().skip_while(|line| *line != "//! ```text").skip(1).take_while(|line| *line != "//! ```");
     let text: String = lines.map(|line| line.strip_prefix("//! ").unwrap().to_string() + "\n").collect();
     let trace = Trace::from_text(&text).unwrap();
-    let (arg, mask) = (Arg::at(0, 2).with_added(4), 0xffu32);
-    let step =
-        Step { op: 0x02, pc: 7, operands: [Slot::new(0u32, arg.masked(mask)), Slot::plain(32u32)], pick: Some(0), load: Some(Label::CallData) };
-    let slots = vec![Slot::new(5u32, Label::ZeroTest(Arg::at(4, 1))).into()];
+    let first = Slot::plain(0).with_label(Arg::at(0, 2).with_added(4).masked(Word::new(0xff)));
+    let step = Step::new(op::MUL).at(7).on_both(first, Slot::plain(32)).picking(0).loading(Label::CallData);
+    let slots = vec![Slot::plain(5).with_label(Label::ZeroTest(Arg::at(4, 1))).into()];
     let entries = vec![Entry { offset: 64, replaced: true, label: Label::CallData }.into()];
     let steps = vec![TraceStep { numbers: (&step).into(), slots, entries }];
-    assert_eq!(trace, Trace { code: vec![0x60, 0x80], start: 12, packed: true, word: 10u32.into(), steps });
+    assert_eq!(trace, Trace { code: vec![0x60, 0x80], start: 12, packed: true, word: Word::new(10), steps });
 }
 
 #[test]
@@ -127,22 +127,42 @@ fn what_is_no_text() {
     }
 }
 
+/// The last line is the first that is too much.
+#[test]
+fn more_numbers_than_a_text_has() {
+    let steps = NUMBERS_LIMIT / STEP;
+    let text = "step 0\n".repeat(steps);
+    assert_eq!(Trace::from_text(&text).unwrap().steps.len(), steps);
+    for line in ["step 0", "slot 0\nslot 0\nslot 0", "entry 0\nentry 0\nentry 0\nentry 0"] {
+        let bad = Trace::from_text(&(text.clone() + line)).unwrap_err();
+        assert_eq!(bad.reason, "the trace has more than 16,777,216 numbers");
+        assert!(bad.line.is_some_and(|at| at > steps), "{bad}");
+    }
+}
+
 #[test]
 fn why_it_is_no_text() {
     for (text, reason) in [
-        ("stop", "`stop` begins no line; code, start, packed, unpacked, step, first, second, pick, load, load-flag, slot, entry do"),
-        ("step MUL\nstop", "`stop` begins no line; code, start, packed, unpacked, step, first, second, pick, load, load-flag, slot, entry do"),
+        (
+            "stop",
+            "`stop` begins no line; code, start, packed, unpacked, step, first, second, pick, load, load-flag, slot, entry do",
+        ),
+        (
+            "step MUL\nstop",
+            "`stop` begins no line; code, start, packed, unpacked, step, first, second, pick, load, load-flag, slot, entry do",
+        ),
         ("pick x", "no step stands before this line"),
         ("step MUL\npick x", "`x` is no number below 2^32, in decimal or in hex behind 0x"),
         ("start 4294967296", "`4294967296` is no number below 2^32, in decimal or in hex behind 0x"),
-        ("packed x", "`x`: a word is decimal below 2^64, or hex behind 0x"),
+        ("packed x", "`x`: a word is decimal digits, or hex digits behind 0x"),
         ("step MUL\nslot 5 6", "`6`: a label is none, calldata, arg, zero-test or numbers"),
     ] {
         assert_eq!(Trace::from_text(text).unwrap_err().reason, reason);
     }
 }
 
-/// The printer's bytes for so much code begin with `#`, with the end of a line, and with a letter and the end of a line.
+/// The printer's bytes for so much code begin with `#`, with the end of a line, and with a letter and the end of a
+/// line.
 #[test]
 fn bytes_are_no_text() {
     for (length, line) in [(0x23, 1), (0x0a, 2), (0x0a41, 2)] {
@@ -176,7 +196,10 @@ fn lines_that_stand_once() {
         assert_eq!(other.is_ok(), !["start", "packed or unpacked"].contains(&name), "each step has its own lines");
     }
     let joined = Trace::from_text("code 0x60\nstep MUL\ncode 0x80\nslot 1\nslot 1\nentry 0\nentry 0").unwrap();
-    assert_eq!((&joined.code[..], joined.steps[0].slots.len(), joined.steps[0].entries.len()), (&[0x60, 0x80][..], 2, 2));
+    assert_eq!(
+        (&joined.code[..], joined.steps[0].slots.len(), joined.steps[0].entries.len()),
+        (&[0x60, 0x80][..], 2, 2)
+    );
 }
 
 #[test]
@@ -205,23 +228,24 @@ fn what_are_no_bytes() {
 
 #[test]
 fn refused_traces_run_as_the_printer_says() {
-    assert_eq!(Trace::default().run(), "none\n");
-    assert_eq!(Trace::from_text("step STOP\nstep CALLDATALOAD\n first 4").unwrap().run(), "refused 7 at 2\n");
-    assert_eq!(Trace::from_text("step 256").unwrap().run(), "refused 6 at 1\n");
+    let run = |text| Trace::from_text(text).unwrap().run().unwrap();
+    assert_eq!(run(""), "none\n");
+    assert_eq!(run("step STOP\nstep CALLDATALOAD\n first 4"), "refused 7 at 2\n");
+    assert_eq!(run("step 256"), "refused 6 at 1\n");
     // PUSH3 01f404 CALLDATASIZE LT: more words than the table has records
-    assert_eq!(Trace::from_text("code 0x6201f4043610").unwrap().run(), "refused 8 at 0\n");
+    assert_eq!(run("code 0x6201f4043610"), "refused 8 at 0\n");
 }
 
 /// A trace made by hand may be larger than the printer takes: it says so when it would read that.
 #[test]
 fn traces_over_the_sizes_run_as_the_printer_says() {
     let step = |op, slots, entries| {
-        let numbers = (&Step { operands: [Slot::plain(4u32), Slot::default()], ..Step::default() }).into();
+        let numbers = (&Step::default().on(Slot::plain(4))).into();
         let mut step = TraceStep { numbers, slots: vec![[0; SLOT]; slots], entries: vec![[0; ENTRY]; entries] };
         step.numbers[0] = op;
         step
     };
-    let run = |length, steps| Trace { code: vec![0; length], steps, ..Trace::default() }.run();
+    let run = |length, steps| Trace { code: vec![0; length], steps, ..Trace::default() }.run().unwrap();
     let (load, bad) = (0x35, 256);
     assert_eq!(run(CODE_LIMIT, vec![step(load, COUNT_LIMIT, COUNT_LIMIT)]), "args 1 left 8190 head 32\n0 uint256\n");
     for steps in [vec![], vec![step(load, 1, 0)], vec![step(bad, 1, 0)]] {
@@ -229,6 +253,10 @@ fn traces_over_the_sizes_run_as_the_printer_says() {
     }
     for (slots, entries) in [(COUNT_LIMIT + 1, 0), (1, COUNT_LIMIT + 1)] {
         assert_eq!(run(0, vec![step(load, 1, 0), step(bad, slots, entries)]), "input refused\n", "before its call");
-        assert_eq!(run(0, vec![step(bad, 1, 0), step(load, slots, entries)]), "refused 6 at 1\n", "after the calls before it");
+        assert_eq!(
+            run(0, vec![step(bad, 1, 0), step(load, slots, entries)]),
+            "refused 6 at 1\n",
+            "after the calls before it"
+        );
     }
 }

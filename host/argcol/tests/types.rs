@@ -8,7 +8,16 @@ fn the_text_of_types() {
     let pair = Tuple(vec![Uint(8), Array(Box::new(Address))]);
     assert_eq!(pair.to_string(), "(uint8,address[])");
     assert_eq!(format!("{pair:>20}|"), "   (uint8,address[])|");
-    let all = vec![Bool, Address, Bytes, String, Uint(256), Int(8), FixedBytes(32), Array(Box::new(Array(Box::new(pair.clone()))))];
+    let all = vec![
+        Bool,
+        Address,
+        Bytes,
+        String,
+        Uint(256),
+        Int(8),
+        FixedBytes(32),
+        Array(Box::new(Array(Box::new(pair.clone())))),
+    ];
     let codes: Vec<u16> = all.iter().flat_map(Type::codes).collect();
     assert_eq!(text(&codes).unwrap(), "bool,address,bytes,string,uint256,int8,bytes32,(uint8,address[])[][]");
     assert_eq!(Type::from_codes(&codes).unwrap(), all);
@@ -17,7 +26,9 @@ fn the_text_of_types() {
     assert_eq!((text_into(&[1], &mut out), &out), (Ok(4), b"boolxx"));
     // the longest text there is
     assert_eq!(text(&[1256; TYPES]).unwrap(), vec!["uint256"; TYPES].join(","));
-    for odd in [Uint(7), Uint(1008), Int(264), FixedBytes(0), FixedBytes(33), Tuple(vec![Bool]), Array(Box::new(Uint(9)))] {
+    for odd in
+        [Uint(7), Uint(1008), Int(264), FixedBytes(0), FixedBytes(33), Tuple(vec![Bool]), Array(Box::new(Uint(9)))]
+    {
         assert_eq!(odd.to_string(), format!("{odd:?}"), "no ABI type has a text");
     }
     for code in 0..=u16::MAX {
@@ -48,7 +59,8 @@ fn on_a_threads_stack(run: impl FnOnce() + Send + 'static) {
     std::thread::Builder::new().stack_size(2 << 20).spawn(run).unwrap().join().unwrap();
 }
 
-/// The deepest types that a list of codes can stand for are read, written, shown, copied and dropped on the stack that a thread has by default.
+/// The deepest types that a list of codes can stand for are read, written, shown, copied and dropped on the stack that
+/// a thread has by default.
 #[test]
 fn the_deepest_types() {
     on_a_threads_stack(|| {
@@ -57,7 +69,8 @@ fn the_deepest_types() {
         assert_eq!((types.len(), types[0].codes()), (1, arrays.clone()));
         assert_eq!(types[0].to_string(), "uint256".to_string() + &"[]".repeat(TYPES - 1));
         assert!(types[0].clone().codes() == arrays);
-        let levels = std::iter::successors(Some(&types[0]), |ty| if let Type::Array(inner) = ty { Some(inner) } else { None });
+        let levels =
+            std::iter::successors(Some(&types[0]), |ty| if let Type::Array(inner) = ty { Some(inner) } else { None });
         assert_eq!(levels.count(), TYPES);
         drop(types);
         // a pair whose second part is a pair, and so on
@@ -80,12 +93,13 @@ fn copies() {
 
 #[test]
 fn more_codes_than_a_list_has() {
-    let refused = Err(BadNumbers("a list has at most 8,192 codes"));
+    let reason = |codes: &[u16]| Type::from_codes(codes).unwrap_err().reason();
     for length in [TYPES + 1, 1_000_000] {
-        assert_eq!(Type::from_codes(&vec![1; length]), refused);
-        assert_eq!(Type::from_codes(&vec![5; length]), refused);
-        assert_eq!(Type::from_codes(&[&vec![5; length - 1][..], &[1]].concat()), refused);
+        for codes in [vec![1; length], vec![5; length], [&vec![5; length - 1][..], &[1]].concat()] {
+            assert_eq!(reason(&codes), "a list has at most 8,192 codes");
+        }
     }
+    assert_eq!((reason(&[5]), reason(&[6])), ("a type's codes are cut short", "no type has this code"));
     assert_eq!(Type::from_codes(&[1; TYPES]).unwrap(), vec![Type::Bool; TYPES]);
     // made by hand, such a type has no text
     let half = Type::Tuple(vec![Type::Bool; TYPES / 2]);

@@ -22,6 +22,9 @@ pub fn closing(scene: &Scene) {
     let (mut ours, mut state, mut types) = (scene.clone(), scene.state(), vec![0; TYPES]);
     let said = ours.close(&mut types);
     let rust = published::close(&scene.code, 0, None, &mut state);
-    assert!(rust == Answer::Granted(said.left as usize, said.entries as usize, scene.list()), "the same list on both sides");
+    assert!(
+        rust == Answer::Granted(said.left as usize, said.entries as usize, scene.list()),
+        "the same list on both sides"
+    );
     assert!(state == ours.state(), "the same facts on both sides");
 }

@@ -5,13 +5,22 @@ use crate::{
     moves::Move,
     scenes::Scene,
 };
-use argcol::{TYPES, raw};
-use std::time::Instant;
+use argcol::{Memory, Session, Stack, Step, TYPES, raw};
+use std::{hint::black_box, time::Instant};
 
 pub fn our_step(scene: &Scene, step: &Move) -> (f64, Scene) {
     let mut s = scene.clone();
     let time = repeated(|| assert_eq!(s.step(step), 0));
     (time, s)
+}
+
+/// The same by the library: a session, with a stack, a memory and a step as values.
+pub fn library_step(scene: &Scene, step: &Move) -> f64 {
+    let mut session = Session::from_numbers(scene.head, scene.table.clone()).unwrap();
+    let mut stack = Stack::try_from(&scene.stack[..]).unwrap();
+    let mut memory = Memory::try_from(&scene.memory[..]).unwrap();
+    let step = Step::try_from(step).unwrap();
+    repeated(|| session.step(&scene.code, &mut stack, &mut memory, black_box(&step)).unwrap())
 }
 
 /// Steps in a row that make records: the time of one.
@@ -31,11 +40,13 @@ pub fn our_closing(scene: &Scene, entries: usize) -> f64 {
     }
 }
 
-/// A call that makes records, which are taken back off the clock. Only the numbers that it changes are written, so that the caches stay as they are.
+/// A call that makes records, which are taken back off the clock. Only the numbers that it changes are written, so that
+/// the caches stay as they are.
 fn taken_back(scene: &Scene, mut call: impl FnMut(&mut Scene)) -> f64 {
     let mut s = scene.clone();
     call(&mut s);
-    let changed: Vec<(usize, u32)> = scene.table.iter().copied().enumerate().filter(|(at, number)| s.table[*at] != *number).collect();
+    let changed: Vec<(usize, u32)> =
+        scene.table.iter().copied().enumerate().filter(|(at, number)| s.table[*at] != *number).collect();
     least(|calls| {
         let timed = (0..calls).map(|_| {
             s.head = scene.head;

@@ -1,7 +1,7 @@
 //! Steps to time.
 
 use crate::scenes::Scene;
-use argcol::{Arg, RECORD, STEP, Slot, Step, Word};
+use argcol::{Arg, RECORD, STEP, Slot, Step, Word, op};
 
 pub type Move = [u32; STEP];
 
@@ -9,35 +9,45 @@ pub type Move = [u32; STEP];
 pub const NEW: usize = 8;
 
 fn step(op: u8, first: Slot, second: Slot) -> Move {
-    (&Step { op, operands: [first, second], ..Step::default() }).into()
+    (&Step::new(op).on_both(first, second)).into()
+}
+
+fn arg(arg: Arg) -> Slot {
+    Slot::plain(0).with_label(arg)
 }
 
 fn load(offset: u32) -> Move {
-    step(0x35, Slot::plain(offset), Slot::default())
+    step(op::CALLDATALOAD, Slot::plain(offset.into()), Slot::default())
 }
 
 /// MUL by 32 of what word 0 leads to, the length of an array: every slot and entry with this label gets the word 1.
 pub fn array_mark() -> Move {
-    step(0x02, Slot::new(0u32, Arg::at(0, 2)), Slot::plain(32u32))
+    step(op::MUL, arg(Arg::at(0, 2)), Slot::plain(32))
 }
 
 pub fn revert() -> Move {
-    step(0xfd, Slot::default(), Slot::default())
+    step(op::REVERT, Slot::default(), Slot::default())
 }
 
 impl Scene {
     /// The last key that a step follows; loads are followed up to 130,047.
     fn last(&self) -> u32 {
-        self.table.chunks(RECORD).take(self.head.used as usize).map(|record| record[0]).filter(|key| *key <= 130_043).max().unwrap()
+        self.table
+            .chunks(RECORD)
+            .take(self.head.used as usize)
+            .map(|record| record[0])
+            .filter(|key| *key <= 130_043)
+            .max()
+            .unwrap()
     }
 
     /// Steps that leave the facts as they are when they are taken again.
     pub fn steps(&self) -> [(&'static str, Move); 4] {
         let address = Word([0, 0, 0, u32::MAX, u32::MAX, u32::MAX, u32::MAX, u32::MAX]);
         [
-            ("POP", step(0x50, Slot::default(), Slot::default())),
-            ("ADD", step(0x01, Slot::new(0u32, Arg::at(0, 1)), Slot::plain(4u32))),
-            ("AND", step(0x16, Slot::new(0u32, Arg::at(0, 1)), Slot::plain(address))),
+            ("POP", step(op::POP, Slot::default(), Slot::default())),
+            ("ADD", step(op::ADD, arg(Arg::at(0, 1)), Slot::plain(4))),
+            ("AND", step(op::AND, arg(Arg::at(0, 1)), Slot::from(address))),
             ("load of the last word", load(self.last() + 4)),
         ]
     }
@@ -49,7 +59,7 @@ impl Scene {
 
     /// A load below the last record but one, which has a child at key 0 in a deep table.
     pub fn far_down(&self) -> Move {
-        step(0x35, Slot::new(0u32, Arg::at(0, self.head.used - 1).with_added(36)), Slot::default())
+        step(op::CALLDATALOAD, arg(Arg::at(0, self.head.used - 1).with_added(36)), Slot::default())
     }
 }
 

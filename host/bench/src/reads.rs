@@ -15,7 +15,8 @@ fn sum(numbers: &[u32]) -> u32 {
     sums.iter().chain(rest).fold(0, |sum, number| sum.wrapping_add(*number))
 }
 
-/// A sum that ends early if it overflows, and so goes one by one; four to a turn, so that the loop itself costs nothing.
+/// A sum that ends early if it overflows, and so goes one by one; four to a turn, so that the loop itself costs
+/// nothing.
 #[inline(never)]
 fn sum_one_by_one(numbers: &[u32]) -> Option<u64> {
     let (fours, rest) = numbers.as_chunks::<4>();
@@ -38,7 +39,9 @@ pub struct Reads {
 
 pub fn reads(parts: &[&[u32]]) -> Reads {
     Reads {
-        one_by_one: repeated(|| parts.iter().try_fold(0u64, |all, part| sum_one_by_one(black_box(part))?.checked_add(all))),
+        one_by_one: repeated(|| {
+            parts.iter().try_fold(0u64, |all, part| sum_one_by_one(black_box(part))?.checked_add(all))
+        }),
         vectorized: repeated(|| parts.iter().fold(0u32, |all, part| all.wrapping_add(sum(black_box(part))))),
     }
 }

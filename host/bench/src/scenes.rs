@@ -19,7 +19,8 @@ pub enum Shape {
 }
 
 impl Shape {
-    pub const ALL: [(&str, Self); 4] = [("wide", Self::Wide), ("scattered", Self::Scattered), ("deep", Self::Deep), ("bushy", Self::Bushy)];
+    pub const ALL: [(&str, Self); 4] =
+        [("wide", Self::Wide), ("scattered", Self::Scattered), ("deep", Self::Deep), ("bushy", Self::Bushy)];
 }
 
 #[derive(Clone)]
@@ -34,7 +35,8 @@ pub struct Scene {
 /// Names and their confidence, one after the other.
 const NAMES: [(u32, u32); 8] = [(0, 0), (2, 5), (1, 5), (1008, 5), (3004, 5), (1256, 5), (2128, 20), (3032, 5)];
 
-/// The words from 0 in no order, the same ones in every run: a shuffle by a splitmix64 generator. A stride would not do, since a cache guesses it.
+/// The words from 0 in no order, the same ones in every run: a shuffle by a splitmix64 generator. A stride would not
+/// do, since a cache guesses it.
 fn shuffled(count: usize) -> Vec<usize> {
     let mut words: Vec<usize> = (0..count).collect();
     let mut state = 0u64;
@@ -56,7 +58,8 @@ impl Scene {
             Shape::Deep => (n - 1, 0),
             Shape::Bushy => ((n - 2) / 128 + 1, (n - 2) % 128),
         };
-        let places: Vec<(usize, u32)> = (2..=used).map(place).map(|(parent, word)| (parent, 32 * word as u32)).collect();
+        let places: Vec<(usize, u32)> =
+            (2..=used).map(place).map(|(parent, word)| (parent, 32 * word as u32)).collect();
         Self::of(&places, records)
     }
 
@@ -94,7 +97,19 @@ impl Scene {
         for (i, &(parent, key)) in places.iter().enumerate() {
             children[parent].push((key, i + 2));
             let (name, confidence) = NAMES[i % NAMES.len()];
-            table[RECORD * (i + 1)..RECORD * (i + 2)].copy_from_slice(&[key, parent as u32, 0, 0, 1, 0, 0, 0, 0, name, confidence]);
+            table[RECORD * (i + 1)..RECORD * (i + 2)].copy_from_slice(&[
+                key,
+                parent as u32,
+                0,
+                0,
+                1,
+                0,
+                0,
+                0,
+                0,
+                name,
+                confidence,
+            ]);
         }
         for (n, chain) in children.iter_mut().enumerate().skip(1) {
             chain.sort();
@@ -104,7 +119,7 @@ impl Scene {
                 at = RECORD * (child - 1) + 3;
             }
         }
-        Self { head: Head { used: used as u32, active: 1 }, table, code: vec![0x5b; 1000], stack: Vec::new(), memory: Vec::new() }
+        Self { head: Head::new(used as u32, 1), table, code: vec![0x5b; 1000], stack: Vec::new(), memory: Vec::new() }
     }
 
     /// With a stack and a memory in which every fourth value is an argument.
@@ -118,13 +133,15 @@ impl Scene {
             2 => Label::CallData,
             _ => Label::None,
         };
-        self.stack = (0..slots).flat_map(|i| <[u32; SLOT]>::from(Slot::new(i as u32, label(i)))).collect();
-        self.memory = (0..entries).flat_map(|i| <[u32; ENTRY]>::from(Entry { offset: 32 * i as u32, replaced: false, label: label(i) })).collect();
+        self.stack = (0..slots).flat_map(|i| <[u32; SLOT]>::from(Slot::plain(i as u64).with_label(label(i)))).collect();
+        self.memory = (0..entries)
+            .flat_map(|i| <[u32; ENTRY]>::from(Entry { offset: 32 * i as u32, replaced: false, label: label(i) }))
+            .collect();
         self
     }
 
-    /// A wide table after an array mark on word 0, with the record of its not-bool mark as the last; every fourth value has the label that was marked, but not
-    /// yet the word 1.
+    /// A wide table after an array mark on word 0, with the record of its not-bool mark as the last; every fourth value
+    /// has the label that was marked, but not yet the word 1.
     pub fn marked(used: usize, records: usize, slots: usize, entries: usize) -> Self {
         let label = Arg::at(0, 2);
         let mut scene = Self::new(Shape::Wide, used - 1, records).holding(1, 0, label);
@@ -178,13 +195,17 @@ mod tests {
         for used in [16, 62, 64, 65, 1_024, 1_478, 1_480, 2_048, 4_065, 4_096, 8_192, 16_382, 16_384] {
             let scene = Scene::new(Shape::Scattered, used, used);
             let record = |n: u32| &scene.table[RECORD * (n as usize - 1)..];
-            let chain: Vec<u32> = std::iter::successors(Some(record(1)[2]), |n| Some(record(*n)[3]).filter(|next| *next != 0)).collect();
+            let chain: Vec<u32> =
+                std::iter::successors(Some(record(1)[2]), |n| Some(record(*n)[3]).filter(|next| *next != 0)).collect();
             let keys: Vec<u32> = chain.iter().map(|n| record(*n)[0]).collect();
             assert_eq!(keys, (0..used as u32 - 1).map(|word| 32 * word).collect::<Vec<_>>());
             let mut strides = HashMap::new();
             chain.windows(2).for_each(|pair| *strides.entry(pair[1].wrapping_sub(pair[0])).or_insert(0) += 1);
             // as often as chance has it; a constant stride would be met hundreds of times
-            assert!(strides.values().all(|count| *count <= 8) && strides.get(&1).is_none_or(|count| *count <= 2), "{used}");
+            assert!(
+                strides.values().all(|count| *count <= 8) && strides.get(&1).is_none_or(|count| *count <= 2),
+                "{used}"
+            );
         }
     }
 }

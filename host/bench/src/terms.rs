@@ -17,8 +17,14 @@ impl Scene {
     pub fn state(&self) -> State {
         let paths = self.paths();
         let records = || self.table.chunks(RECORD).zip(&paths[1..]);
-        let fact =
-            |(f, path): (&[u32], &Path)| Fact { path: path.clone(), kind: f[7], count: f[8], name: f[9], confidence: f[10], blocked: f[6] == 1 };
+        let fact = |(f, path): (&[u32], &Path)| Fact {
+            path: path.clone(),
+            kind: f[7],
+            count: f[8],
+            name: f[9],
+            confidence: f[10],
+            blocked: f[6] == 1,
+        };
         let mut facts: Vec<Fact> = records().filter(|(f, _)| f[4] == 1).map(fact).collect();
         // the published source's order, whatever the numbers
         facts.sort_by(|a, b| a.path.cmp(&b.path));
@@ -33,15 +39,25 @@ impl Scene {
         let memory: Vec<Entry> = self.memory.as_chunks().0.iter().map(|numbers| numbers.try_into().unwrap()).collect();
         let step = Step::try_from(step).unwrap();
         let bytes = |replaced: bool| [vec![0; 31], vec![u8::from(replaced)]].concat();
-        let entry = |entry: &Entry| rust::Entry { offset: entry.offset, bytes: bytes(entry.replaced), tag: tag(&entry.label, &paths) };
+        let entry = |entry: &Entry| rust::Entry {
+            offset: entry.offset,
+            bytes: bytes(entry.replaced),
+            tag: tag(&entry.label, &paths),
+        };
         let slot = |slot: &Slot| rust::Slot { word: slot.word.into(), tag: tag(&slot.label, &paths) };
-        let handed = rust::Step { op: step.op, pc: step.pc as usize, args: step.operands.each_ref().map(slot), load: None };
+        let handed =
+            rust::Step { op: step.op, pc: step.pc as usize, args: step.operands.each_ref().map(slot), load: None };
         (stack.iter().map(slot).collect(), memory.iter().map(entry).collect(), handed)
     }
 }
 
 fn tag(label: &Label, paths: &[Path]) -> Tag {
-    let arg = |arg: &Arg| rust::Arg { offset: arg.offset, path: paths[arg.path as usize].clone(), added: arg.added, mask: arg.mask.map(Into::into) };
+    let arg = |arg: &Arg| rust::Arg {
+        offset: arg.offset,
+        path: paths[arg.path as usize].clone(),
+        added: arg.added,
+        mask: arg.mask.map(Into::into),
+    };
     match label {
         Label::None => Tag::None,
         Label::CallData => Tag::CallData,

@@ -1,4 +1,5 @@
-//! The calls of document 01 on tables of numbers, as a host makes them. The plain reading and the proved core both answer them.
+//! The calls of document 01 on tables of numbers, as a host makes them. The plain reading and the proved core both
+//! answer them.
 
 pub const RECORD: usize = 11;
 pub const LABEL: usize = 13;
@@ -26,7 +27,15 @@ pub struct Closing {
 pub trait Core {
     /// The refusal's number, 0 if the call is taken.
     fn fresh(&self, head: &mut Head, table: &mut [u32]) -> u32;
-    fn step(&self, head: &mut Head, table: &mut [u32], code: &[u8], stack: &mut [u32], memory: &mut [u32], step: &[u32]) -> u32;
+    fn step(
+        &self,
+        head: &mut Head,
+        table: &mut [u32],
+        code: &[u8],
+        stack: &mut [u32],
+        memory: &mut [u32],
+        step: &[u32],
+    ) -> u32;
     fn close(&self, head: &mut Head, table: &mut [u32], code: &[u8], closing: &Closing, types: &mut [u16]) -> Verdict;
 }
 

@@ -1,5 +1,5 @@
-//! The differences of docs/DIFFERENCES.md, each with its smallest input: both sides do what is said there; of difference 1, since the published U256 is
-//! not at hand, our side alone. And some of document 01's bench readings.
+//! The differences of docs/DIFFERENCES.md, each with its smallest input: both sides do what is said there; of
+//! difference 1, since the published U256 is not at hand, our side alone. And some of document 01's bench readings.
 
 use crate::{
     compare::{self, Scene},
@@ -10,8 +10,13 @@ use crate::{
 use published::{Arg, Entry, Slot, State, Step, Tag};
 
 fn scene(records: usize) -> Scene {
-    let mut scene =
-        Scene { head: Head { used: 0, active: 0 }, table: vec![0; records * RECORD], code: Vec::new(), stack: Vec::new(), memory: Vec::new() };
+    let mut scene = Scene {
+        head: Head::default(),
+        table: vec![0; records * RECORD],
+        code: Vec::new(),
+        stack: Vec::new(),
+        memory: Vec::new(),
+    };
     assert_eq!(Plain.fresh(&mut scene.head, &mut scene.table), 0);
     scene
 }
@@ -21,8 +26,14 @@ fn step(scene: &mut Scene, step: &[u32]) -> u32 {
     let mut other = scene.clone();
     let said = Plain.step(&mut scene.head, &mut scene.table, &scene.code, &mut scene.stack, &mut scene.memory, step);
     if proved::AT_HAND {
-        assert_eq!(Proved.step(&mut other.head, &mut other.table, &other.code, &mut other.stack, &mut other.memory, step), said);
-        assert_eq!((other.head, &other.table, &other.stack, &other.memory), (scene.head, &scene.table, &scene.stack, &scene.memory));
+        assert_eq!(
+            Proved.step(&mut other.head, &mut other.table, &other.code, &mut other.stack, &mut other.memory, step),
+            said
+        );
+        assert_eq!(
+            (other.head, &other.table, &other.stack, &other.memory),
+            (scene.head, &scene.table, &scene.stack, &scene.memory)
+        );
     }
     said
 }
@@ -52,10 +63,11 @@ fn numbers(op: u32, first: (u32, [u32; 4]), second: (u32, [u32; 4])) -> Vec<u32>
 const BARE: [u32; 4] = [0; 4];
 
 fn fresh_state() -> State {
-    compare::state(&scene(1).table, Head { used: 1, active: 1 }, &[vec![], vec![]])
+    compare::state(&scene(1).table, Head::new(1, 1), &[vec![], vec![]])
 }
 
-/// After a load of word 0, which makes record 2, and a shift of what it points to by a word that is 0 but for one number.
+/// After a load of word 0, which makes record 2, and a shift of what it points to by a word that is 0 but for one
+/// number.
 fn shifted(place: usize, number: u32) -> Scene {
     let mut scene = scene(4);
     scene.stack = vec![0; SLOT];
@@ -79,7 +91,8 @@ fn one_a_shift_of_256_and_more_multiplies_by_0() {
         assert_eq!(mark(&scene), [0; 4]);
         assert_eq!(close(&mut scene, 0), (Verdict::Granted { entries: 1, left: 8190, length: 32 }, vec![1256]));
     }
-    // by its lowest number alone 2^64 would be a shift of 0, which names bytes; and 2^64 + 5 one of 5, which marks an array
+    // by its lowest number alone 2^64 would be a shift of 0, which names bytes; and 2^64 + 5 one of 5, which marks an
+    // array
     assert_eq!(mark(&shifted(7, 0)), [0, 0, 3, 10]);
     assert_eq!(mark(&shifted(7, 5)), [2, 1, 0, 0]);
 }
@@ -89,7 +102,7 @@ fn two_a_checked_length_below_four() {
     let mut scene = scene(4);
     scene.code = vec![0x60, 0, 0x36, 0x10];
     assert_eq!(close(&mut scene, 0), (Verdict::None, vec![]));
-    // without overflow checks, as this workspace builds, the source reads nothing too
+    // without overflow checks, as it is built here, the source reads nothing too
     if published::AT_HAND {
         assert_eq!(published::least_words(&scene.code, 0, None), None);
     }
@@ -106,7 +119,13 @@ fn three_a_pick_is_taken_as_handed_in() {
     if published::AT_HAND {
         let word = |n: u8| Slot { word: std::array::from_fn(|i| if i == 31 { n } else { 0 }), tag: Tag::None };
         let mut memory = vec![Entry { offset: 0, bytes: vec![9], tag: Tag::None }];
-        published::analyze(&[], &mut fresh_state(), &mut Vec::new(), &mut memory, &Step { op: 0x37, pc: 0, args: [word(4), word(32)], load: None });
+        published::analyze(
+            &[],
+            &mut fresh_state(),
+            &mut Vec::new(),
+            &mut memory,
+            &Step { op: 0x37, pc: 0, args: [word(4), word(32)], load: None },
+        );
         assert_eq!(memory[0].tag, Tag::None);
     }
 }
@@ -115,7 +134,10 @@ fn three_a_pick_is_taken_as_handed_in() {
 fn refused(scene: &mut Scene, handed: &[u32], number: u32) {
     let before = scene.clone();
     assert_eq!(step(scene, handed), number);
-    assert_eq!((scene.head, &scene.table, &scene.stack, &scene.memory), (before.head, &before.table, &before.stack, &before.memory));
+    assert_eq!(
+        (scene.head, &scene.table, &scene.stack, &scene.memory),
+        (before.head, &before.table, &before.stack, &before.memory)
+    );
 }
 
 /// What the source makes of a step from a fresh state: whether it gives an error, and the state.
@@ -135,7 +157,8 @@ fn four_an_argument_added_with_an_empty_stack() {
     }
 }
 
-/// Arms that don't read the stack: LT, SHL of the second operand, AND with a mask that gives no type, and ISZERO of a zero test, which alone names.
+/// Arms that don't read the stack: LT, SHL of the second operand, AND with a mask that gives no type, and ISZERO of a
+/// zero test, which alone names.
 #[test]
 fn four_other_arms_with_an_empty_stack() {
     let arg = |offset| Arg { offset, path: vec![], added: 0, mask: None };
@@ -179,8 +202,11 @@ fn load_of_word_0() -> (Vec<u32>, [Slot; 2]) {
 #[test]
 fn four_more_slots_entries_or_code_than_are_taken() {
     let (load, args) = load_of_word_0();
-    for (slots, entries, bytes, number) in [(1_025, 0, 0, 4), (1, 1_025, 0, 4), (1, 0, 65_537, 3), (1_024, 1_024, 65_536, 0)] {
-        let mut held = Scene { stack: vec![0; SLOT * slots], memory: vec![0; ENTRY * entries], code: vec![0; bytes], ..scene(4) };
+    for (slots, entries, bytes, number) in
+        [(1_025, 0, 0, 4), (1, 1_025, 0, 4), (1, 0, 65_537, 3), (1_024, 1_024, 65_536, 0)]
+    {
+        let mut held =
+            Scene { stack: vec![0; SLOT * slots], memory: vec![0; ENTRY * entries], code: vec![0; bytes], ..scene(4) };
         if number == 0 {
             assert_eq!((step(&mut held, &load), held.head.used), (0, 2), "the largest that are taken");
         } else {
@@ -201,7 +227,10 @@ fn four_a_closing_of_more_code_than_is_taken() {
     assert_eq!(close(&mut held, 0), (Verdict::Refused(3), vec![]));
     assert_eq!((held.head, &held.table), (scene(4).head, &scene(4).table));
     if published::AT_HAND {
-        assert_eq!(published::close(&held.code, 0, None, &mut fresh_state()), published::Answer::Granted(8190, 1, vec![1256]));
+        assert_eq!(
+            published::close(&held.code, 0, None, &mut fresh_state()),
+            published::Answer::Granted(8190, 1, vec![1256])
+        );
     }
     held.code.pop();
     assert_eq!(close(&mut held, 0), (Verdict::Granted { entries: 1, left: 8190, length: 32 }, vec![1256]));
@@ -226,7 +255,11 @@ fn five_none_and_over() {
 #[test]
 fn p1_an_array() {
     let mut scene = scene(1480);
-    for numbers in [numbers(0x35, (4, BARE), (0, BARE)), numbers(0x35, (0, [2, 0, 1, 4]), (0, BARE)), numbers(0x02, (0, [2, 0, 2, 0]), (32, BARE))] {
+    for numbers in [
+        numbers(0x35, (4, BARE), (0, BARE)),
+        numbers(0x35, (0, [2, 0, 1, 4]), (0, BARE)),
+        numbers(0x02, (0, [2, 0, 2, 0]), (32, BARE)),
+    ] {
         scene.stack = vec![0; SLOT];
         assert_eq!(step(&mut scene, &numbers), 0);
     }

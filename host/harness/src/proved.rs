@@ -28,7 +28,15 @@ impl Core for Proved {
         raw::fresh(head, table)
     }
 
-    fn step(&self, head: &mut Head, table: &mut [u32], code: &[u8], stack: &mut [u32], memory: &mut [u32], step: &[u32]) -> u32 {
+    fn step(
+        &self,
+        head: &mut Head,
+        table: &mut [u32],
+        code: &[u8],
+        stack: &mut [u32],
+        memory: &mut [u32],
+        step: &[u32],
+    ) -> u32 {
         raw::step(head, table, code, stack, memory, step)
     }
 

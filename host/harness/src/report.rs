@@ -1,21 +1,9 @@
 //! Lists of calls and runs until there are enough, and what is said of them.
 
-use crate::{calls, compare::Tally, generate::Random, machine, proved};
-
-/// Says which of the three sides are there.
-pub fn sides() {
-    let (published, proved) = (published::AT_HAND, proved::AT_HAND);
-    println!("sides: plain reading{}{}", if proved { ", proved core" } else { "" }, if published { ", published source" } else { "" });
-    if !published {
-        println!("the published source is not at hand: its comparisons are passed over");
-    }
-    if !proved {
-        println!("the archive is not at hand: comparisons with the proved core are passed over");
-    }
-}
+use crate::{calls, compare::Tally, generate::Random, machine, sides};
 
 pub fn run(seed: u64, steps: u64, calls: fn(&mut Random, &mut Tally)) -> bool {
-    sides();
+    sides::say();
     let mut tally = Tally::new();
     let mut r = Random(seed);
     while tally.steps < steps {
@@ -33,11 +21,7 @@ pub fn run(seed: u64, steps: u64, calls: fn(&mut Random, &mut Tally)) -> bool {
 }
 
 pub fn machines(seed: u64, runs: u64) -> bool {
-    if !published::AT_HAND {
-        println!("the published source is not at hand: its machine is passed over");
-        return true;
-    }
-    sides();
+    sides::say();
     let mut tally = Tally::new();
     let mut r = Random(seed);
     let (mut found, mut empty, mut codes, mut longest) = (0, 0, 0, 0);
@@ -56,7 +40,10 @@ pub fn machines(seed: u64, runs: u64) -> bool {
     }
     println!("seed {seed}");
     println!("runs {runs}, with the function found {found}, empty lists {empty}, codes in all lists {codes}");
-    println!("steps {}, at most {longest} in one run; closings {}: none, over, granted {:?}", tally.steps, tally.closings, tally.verdicts);
+    println!(
+        "steps {}, at most {longest} in one run; closings {}: none, over, granted {:?}",
+        tally.steps, tally.closings, tally.verdicts
+    );
     println!("differences {}", tally.differences);
     tally.differences == 0
 }

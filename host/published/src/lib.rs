@@ -1,5 +1,5 @@
-//! The published source as it stands, behind numbers, paths and codes. Without the source (`build.rs` says where it is looked for) only the plain forms
-//! below are here, and `AT_HAND` is false.
+//! The published source as it stands, behind numbers, paths and codes. Without the source (`build.rs` says where it is
+//! looked for) only the plain forms below are here, and `AT_HAND` is false.
 
 #![allow(dead_code, unused_imports, unexpected_cfgs, clippy::all)]
 

@@ -1,5 +1,5 @@
-//! A child module of the published `arguments` (build.rs puts it there): it turns our forms into the source's own values, calls what is private, and
-//! turns the values back.
+//! A child module of the published `arguments` (build.rs puts it there): it turns our forms into the source's own
+//! values, calls what is private, and turns the values back.
 
 use super::*;
 use crate::evm::memory::{LabeledVec, MemoryChunk, MemoryChunks};
@@ -13,7 +13,12 @@ mod pieces {
 
     pub(super) trait Watch {
         fn start(&mut self, vm: &Vm<Label, CallDataImpl>);
-        fn step(&mut self, vm: &mut Vm<Label, CallDataImpl>, args: &mut ArgsResult, ret: StepResult<Label>) -> Result<(), Box<dyn std::error::Error>>;
+        fn step(
+            &mut self,
+            vm: &mut Vm<Label, CallDataImpl>,
+            args: &mut ArgsResult,
+            ret: StepResult<Label>,
+        ) -> Result<(), Box<dyn std::error::Error>>;
     }
 
     include!(concat!(env!("OUT_DIR"), "/source/arguments/pieces.rs"));
@@ -33,7 +38,12 @@ fn label(tag: &Tag) -> Option<Label> {
 }
 
 fn arg(val: &Val) -> Arg {
-    Arg { offset: val.offset, path: val.path.clone(), added: val.add_val, mask: val.and_mask.map(|mask| mask.to_be_bytes()) }
+    Arg {
+        offset: val.offset,
+        path: val.path.clone(),
+        added: val.add_val,
+        mask: val.and_mask.map(|mask| mask.to_be_bytes()),
+    }
 }
 
 fn tag(label: &Option<Label>) -> Tag {
@@ -129,7 +139,11 @@ fn state(args: &ArgsResult) -> State {
 }
 
 fn entries(vm: &Vm<Label, CallDataImpl>) -> Vec<Entry> {
-    vm.memory.data.iter().map(|(offset, held)| Entry { offset: *offset, bytes: held.data.clone(), tag: tag(&held.label) }).collect()
+    vm.memory
+        .data
+        .iter()
+        .map(|(offset, held)| Entry { offset: *offset, bytes: held.data.clone(), tag: tag(&held.label) })
+        .collect()
 }
 
 fn slots(vm: &Vm<Label, CallDataImpl>) -> Vec<Slot> {
@@ -151,11 +165,20 @@ fn chunks(load: &Option<(u32, Vec<Chunk>)>) -> Option<MemoryChunks<Label>> {
 }
 
 fn entries_of(memory: &[Entry]) -> Vec<(u32, LabeledVec<Label>)> {
-    memory.iter().map(|entry| (entry.offset, LabeledVec { data: entry.bytes.clone(), label: label(&entry.tag) })).collect()
+    memory
+        .iter()
+        .map(|entry| (entry.offset, LabeledVec { data: entry.bytes.clone(), label: label(&entry.tag) }))
+        .collect()
 }
 
 fn result_of(step: &Step) -> StepResult<Label> {
-    StepResult { op: step.op, gas_used: 0, args: [element(&step.args[0]), element(&step.args[1])], exargs: Vec::new(), memory_load: chunks(&step.load) }
+    StepResult {
+        op: step.op,
+        gas_used: 0,
+        args: [element(&step.args[0]), element(&step.args[1])],
+        exargs: Vec::new(),
+        memory_load: chunks(&step.load),
+    }
 }
 
 /// One call of `analyze`: true if it gave an error.
@@ -216,9 +239,18 @@ impl pieces::Watch for Seen<'_> {
         self.watcher.start(vm.pc, vm.stack.peek().ok().map(|top| top.data));
     }
 
-    fn step(&mut self, vm: &mut Vm<Label, CallDataImpl>, args: &mut ArgsResult, ret: StepResult<Label>) -> Result<(), Box<dyn std::error::Error>> {
+    fn step(
+        &mut self,
+        vm: &mut Vm<Label, CallDataImpl>,
+        args: &mut ArgsResult,
+        ret: StepResult<Label>,
+    ) -> Result<(), Box<dyn std::error::Error>> {
         let load = ret.memory_load.as_ref().map(|load| {
-            let chunks = load.chunks.iter().map(|chunk| Chunk { from: chunk.dst_range.start, to: chunk.dst_range.end, tag: tag(&Some(chunk.src_label.clone())) });
+            let chunks = load.chunks.iter().map(|chunk| Chunk {
+                from: chunk.dst_range.start,
+                to: chunk.dst_range.end,
+                tag: tag(&Some(chunk.src_label.clone())),
+            });
             (load.size, chunks.collect())
         });
         let step = Step { op: ret.op, pc: vm.pc, args: [slot(&ret.args[0]), slot(&ret.args[1])], load };
@@ -234,7 +266,9 @@ impl pieces::Watch for Seen<'_> {
 /// `function_arguments`, with each step shown to a watcher; the codes of its list.
 pub fn watch(code: &[u8], selector: [u8; 4], gas_limit: u32, watcher: &mut dyn Watcher) -> Vec<u16> {
     let mut codes = Vec::new();
-    pieces::watched_arguments(&mut Seen { watcher }, code, &selector, gas_limit).iter().for_each(|ty| put_codes(ty, &mut codes));
+    pieces::watched_arguments(&mut Seen { watcher }, code, &selector, gas_limit)
+        .iter()
+        .for_each(|ty| put_codes(ty, &mut codes));
     codes
 }
 

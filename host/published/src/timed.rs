@@ -1,4 +1,5 @@
-//! The published functions alone under a clock: what they are handed is made before, and what they give is dropped after.
+//! The published functions alone under a clock: what they are handed is made before, and what they give is dropped
+//! after.
 
 use super::super::*;
 use super::{element, entries_of, pieces, result_of, results, state};
@@ -29,8 +30,9 @@ impl<'a> Stepper<'a> {
         Self { made: made.first().copied(), ..stepper }
     }
 
-    /// The step again and again, on what the one before left. One that makes a record would make none the second time: each loads from one byte
-    /// further on than the one before, and at the end, off the clock, their records are taken back.
+    /// The step again and again, on what the one before left. One that makes a record would make none the second time:
+    /// each loads from one byte further on than the one before, and at the end, off the clock, their records are taken
+    /// back.
     pub fn batch(&mut self, calls: usize) -> Duration {
         let handed: Vec<_> = (0..calls).map(|call| self.handed(call)).collect();
         let start = Instant::now();
@@ -59,7 +61,12 @@ impl<'a> Stepper<'a> {
 
 /// The keys below the root that were not held.
 fn made(args: &ArgsResult, held: &State) -> Vec<u32> {
-    args.data.children.keys().copied().filter(|key| held.facts.binary_search_by(|fact| fact.path[..].cmp(&[*key])).is_err()).collect()
+    args.data
+        .children
+        .keys()
+        .copied()
+        .filter(|key| held.facts.binary_search_by(|fact| fact.path[..].cmp(&[*key])).is_err())
+        .collect()
 }
 
 fn take_back(args: &mut ArgsResult, made: &[u32]) {

@@ -2,6 +2,7 @@
 
 use super::{BadTrace, CODE_LIMIT, COUNT_LIMIT, Trace, TraceStep, bad};
 use crate::Word;
+use alloc::vec::Vec;
 
 struct Bytes<'a>(&'a [u8]);
 
@@ -34,8 +35,20 @@ fn put(out: &mut Vec<u8>, numbers: &[u32]) {
 }
 
 impl Trace {
-    /// Reads the printer's bytes, and refuses what isn't whole or is larger than the printer takes. The printer takes each step as soon as it has read it,
-    /// so for bytes that are refused here it may meet a refused step first, and print that.
+    /// Reads the printer's bytes. The printer takes each step as soon as it has read it, so for bytes that are refused
+    /// here it may meet a refused step first, and print that.
+    ///
+    /// # Errors
+    ///
+    /// The bytes are not whole, or larger than the printer takes.
+    ///
+    /// ```
+    /// use argcol::trace::Trace;
+    ///
+    /// assert_eq!(Trace::from_bytes(&[0; 48])?, Trace::default());
+    /// assert!(Trace::from_bytes(&[0; 47]).is_err());
+    /// # Ok::<(), argcol::trace::BadTrace>(())
+    /// ```
     pub fn from_bytes(bytes: &[u8]) -> Result<Self, BadTrace> {
         let mut from = Bytes(bytes);
         let [length, start, flag] = from.numbers()?;
@@ -63,6 +76,10 @@ impl Trace {
     }
 
     /// The printer's bytes.
+    ///
+    /// ```
+    /// assert_eq!(argcol::trace::Trace::default().to_bytes(), [0; 48]);
+    /// ```
     pub fn to_bytes(&self) -> Vec<u8> {
         let mut out = Vec::new();
         put(&mut out, &[self.code.len() as u32, self.start, u32::from(self.packed)]);

@@ -1,4 +1,5 @@
-//! Traces of the trace printer, as bytes and as text that a person reads and writes. Both forms hold any numbers, also such as the core refuses.
+//! Traces of the trace printer, as bytes and as text that a person reads and writes. Both forms hold any numbers, also
+//! such as the core refuses.
 //!
 //! ```text
 //! # a line is blank, a comment, or one of these; what is left out is 0 or none
@@ -14,18 +15,19 @@
 //!   entry 64 replaced 1 calldata
 //! ```
 //!
-//! A label is `none` (or nothing), `calldata`, `arg` or `zero-test` with what follows, or `numbers` and its 13 numbers. There may be several lines of
-//! code, steps, slots and entries; each other line stands once, in the trace or in its step. A pick counts from 1 here and from 0 in [`crate::Step`].
+//! A label is `none` (or nothing), `calldata`, `arg` or `zero-test` with what follows, or `numbers` and its 13 numbers.
+//! There may be several lines of code, steps, slots and entries; each other line stands once, in the trace or in its
+//! step. A pick counts from 1 here and from 0 in [`crate::Step`].
 
 mod binary;
-mod opcodes;
 mod read;
 mod run;
 mod words;
 mod write;
 
 use crate::{ENTRY, SLOT, STEP, Word};
-use std::{error::Error, fmt};
+use alloc::{string::String, vec::Vec};
+use core::fmt;
 
 /// The most bytes of code that the printer takes.
 pub const CODE_LIMIT: usize = 24_576;
@@ -33,6 +35,8 @@ pub const CODE_LIMIT: usize = 24_576;
 pub const COUNT_LIMIT: usize = 256;
 /// The records of the printer's table.
 pub const RECORDS: usize = 1_480;
+/// The most numbers of steps, slots and entries that a text may have, 64 MB of them; a printer's bytes have no limit.
+pub const NUMBERS_LIMIT: usize = 1 << 24;
 
 /// A step with the stack and the memory that it is lent, in document 01's numbers.
 #[derive(Clone, Debug, PartialEq, Eq)]
@@ -69,6 +73,7 @@ impl TraceStep {
 
 /// What is wrong with a trace, and in which line of a text.
 #[derive(Clone, Debug, PartialEq, Eq)]
+#[non_exhaustive]
 pub struct BadTrace {
     /// The line, from 1; none for bytes.
     pub line: Option<usize>,
@@ -85,7 +90,7 @@ impl fmt::Display for BadTrace {
     }
 }
 
-impl Error for BadTrace {}
+impl core::error::Error for BadTrace {}
 
 fn bad<T>(reason: &str) -> Result<T, BadTrace> {
     Err(BadTrace { line: None, reason: reason.into() })

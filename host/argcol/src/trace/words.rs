@@ -1,39 +1,37 @@
 //! The words of a line of the text form, from the left, and the values that they stand for.
 
 use super::{BadTrace, bad};
-use crate::{BadNumbers, LABEL, SLOT, Word};
+use crate::{LABEL, ParseWordError, SLOT, Word};
+use alloc::format;
+use core::{iter::Peekable, str::SplitWhitespace};
 
-pub(super) struct Words<'a>(Vec<&'a str>);
+pub(super) struct Words<'a>(Peekable<SplitWhitespace<'a>>);
 
 impl<'a> Words<'a> {
     /// What stands before a comment.
     pub(super) fn of(line: &'a str) -> Self {
-        Self(line.split('#').next().unwrap_or_default().split_whitespace().collect())
+        Self(line.split('#').next().unwrap_or_default().split_whitespace().peekable())
     }
 
-    pub(super) fn is_empty(&self) -> bool {
-        self.0.is_empty()
+    pub(super) fn is_empty(&mut self) -> bool {
+        self.0.peek().is_none()
     }
 
     pub(super) fn next(&mut self) -> Result<&'a str, BadTrace> {
-        if self.0.is_empty() { bad("the line ends too early") } else { Ok(self.0.remove(0)) }
+        self.0.next().map_or_else(|| bad("the line ends too early"), Ok)
     }
 
     pub(super) fn took(&mut self, word: &str) -> bool {
-        let there = self.0.first() == Some(&word);
-        if there {
-            self.0.remove(0);
-        }
-        there
+        self.0.next_if_eq(&word).is_some()
     }
 
-    pub(super) fn end(&self) -> Result<(), BadTrace> {
-        self.0.first().map_or(Ok(()), |word| bad(&format!("`{word}` isn't expected here")))
+    pub(super) fn end(&mut self) -> Result<(), BadTrace> {
+        self.0.next().map_or(Ok(()), |word| bad(&format!("`{word}` isn't expected here")))
     }
 
     pub(super) fn word(&mut self) -> Result<Word, BadTrace> {
         let text = self.next()?;
-        text.parse().or_else(|reason: BadNumbers| bad(&format!("`{text}`: {reason}")))
+        text.parse().or_else(|reason: ParseWordError| bad(&format!("`{text}`: {reason}")))
     }
 
     pub(super) fn number(&mut self) -> Result<u32, BadTrace> {

@@ -1,10 +1,22 @@
 //! From a trace to the text form.
 
-use super::{Trace, TraceStep, opcodes};
-use crate::{ENTRY, LABEL, Label, SLOT, Word};
+use super::{Trace, TraceStep};
+use crate::{ENTRY, LABEL, Label, SLOT, Word, op};
+use alloc::{
+    format,
+    string::{String, ToString},
+};
 
 impl Trace {
     /// The text form. What is 0 or none is left out.
+    ///
+    /// ```
+    /// use argcol::trace::Trace;
+    ///
+    /// let trace = Trace::from_text("step 0x02   # MUL\n start 0x0c")?;
+    /// assert_eq!(trace.to_text(), "start 12\nstep MUL\n");
+    /// # Ok::<(), argcol::trace::BadTrace>(())
+    /// ```
     pub fn to_text(&self) -> String {
         let mut out = String::new();
         for bytes in self.code.chunks(32) {
@@ -16,7 +28,7 @@ impl Trace {
             out += &format!("start {}\n", self.start);
         }
         if self.packed || self.word != Word::ZERO {
-            out += &format!("{} {}\n", if self.packed { "packed" } else { "unpacked" }, self.word);
+            out += &format!("{} {}\n", if self.packed { "packed" } else { "unpacked" }, word_text(self.word));
         }
         self.steps.iter().for_each(|step| step.put_text(&mut out));
         out
@@ -26,7 +38,7 @@ impl Trace {
 impl TraceStep {
     fn put_text(&self, out: &mut String) {
         let n = &self.numbers;
-        *out += &format!("step {}", opcodes::text(n[0]));
+        *out += &format!("step {}", opcode_text(n[0]));
         if n[1] != 0 {
             *out += &format!(" pc {}", n[1]);
         }
@@ -50,8 +62,19 @@ impl TraceStep {
     }
 }
 
+/// The name, or the number in hex if no opcode has it.
+fn opcode_text(number: u32) -> String {
+    let name = u8::try_from(number).ok().and_then(op::name);
+    name.map_or_else(|| format!("0x{number:x}"), Into::into)
+}
+
+/// In decimal below 2^32, else in hex.
+fn word_text(word: Word) -> String {
+    if u32::try_from(word).is_ok() { word.to_string() } else { format!("{word:#x}") }
+}
+
 fn slot_text(slot: &[u32; SLOT]) -> String {
-    Word(*slot.first_chunk().unwrap()).to_string() + &label_text(slot.last_chunk().unwrap())
+    word_text(Word(*slot.first_chunk().unwrap())) + &label_text(slot.last_chunk().unwrap())
 }
 
 fn entry_text(entry: &[u32; ENTRY]) -> String {

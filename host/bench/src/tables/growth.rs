@@ -39,5 +39,10 @@ fn show(what: &str, sizes: &[usize], time: &dyn Fn(usize) -> f64) {
     let times: Vec<f64> = sizes.iter().map(|size| time(*size)).collect();
     let join = |cells: Vec<String>| cells.join(", ");
     let steps = times.windows(2).map(|pair| ratio(pair[1], pair[0])).collect();
-    row(&[what.into(), join(sizes.iter().map(usize::to_string).collect()), join(times.iter().map(|time| ns(*time)).collect()), join(steps)]);
+    row(&[
+        what.into(),
+        join(sizes.iter().map(usize::to_string).collect()),
+        join(times.iter().map(|time| ns(*time)).collect()),
+        join(steps),
+    ]);
 }

@@ -2,14 +2,17 @@
 
 mod closings;
 mod growth;
+mod library;
 mod soundness;
 mod steps;
 mod texts;
 
-pub fn all() {
-    steps::steps();
-    closings::closings();
-    texts::texts();
-    soundness::soundnesses();
-    growth::growth();
-}
+/// Each by the name that the command line has for it.
+pub const ALL: [(&str, fn()); 6] = [
+    ("steps", steps::steps),
+    ("closings", closings::closings),
+    ("texts", texts::texts),
+    ("soundness", soundness::soundnesses),
+    ("growth", growth::growth),
+    ("library", library::library),
+];

@@ -70,7 +70,8 @@ fn stepper<'a>(scene: &'a Scene, step: &Move) -> Stepper<'a> {
     Stepper::new(&scene.code, &scene.state(), &stack, &memory, &handed)
 }
 
-/// The time of one of so many steps in a row. What thousands of them are handed would not stay in the caches, and a few would take the clock's own time.
+/// The time of one of so many steps in a row. What thousands of them are handed would not stay in the caches, and a few
+/// would take the clock's own time.
 fn in_groups(stepper: &mut Stepper, steps: usize) -> f64 {
     least(|groups| (0..groups).map(|_| stepper.batch(steps)).sum()) / steps as f64
 }

@@ -24,8 +24,8 @@ pub fn filled(r: &mut Random, tally: &mut Tally) {
     compare::close(tally, &mut scene, &Closing { start: 0, packed: None }, &mut types(r));
 }
 
-/// Two long chains through each other, their records learnt in no order, in full and nearly full tables: steps about children that are there and
-/// about keys beside them; and closings that fill in the words between them.
+/// Two long chains through each other, their records learnt in no order, in full and nearly full tables: steps about
+/// children that are there and about keys beside them; and closings that fill in the words between them.
 pub fn scattered(r: &mut Random, tally: &mut Tally) {
     let (code, places) = generate::code(r);
     let used = if r.one_in(12) { 300 + r.below(1180) } else { 33 + r.below(260) };
@@ -53,8 +53,8 @@ pub fn scattered(r: &mut Random, tally: &mut Tally) {
     compare::close(tally, &mut scene, &closing, &mut types(r));
 }
 
-/// Everything at its limit: wide tables of 16,384 records, deep ones of 3,000 levels, full or with room, 1,024 slots and entries, 65,536 bytes of
-/// code; and each at times one larger.
+/// Everything at its limit: wide tables of 16,384 records, deep ones of 3,000 levels, full or with room, 1,024 slots
+/// and entries, 65,536 bytes of code; and each at times one larger.
 pub fn at_limits(r: &mut Random, tally: &mut Tally) {
     let round = r.below(7);
     let (mut code, places) = generate::code(r);

@@ -33,7 +33,7 @@ fn session(r: &mut Random, tally: &mut Tally) {
     let records = if r.one_in(4) { 1 + r.below(12) } else { 20 + r.below(80) };
     let (code, places) = generate::code(r);
     let mut scene = Scene {
-        head: Head { used: r.next() as u32, active: r.next() as u32 },
+        head: Head::new(r.next() as u32, r.next() as u32),
         table: vec![r.next() as u32; records * RECORD],
         code,
         stack: Vec::new(),

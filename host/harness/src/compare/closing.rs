@@ -42,8 +42,15 @@ struct Said<'a> {
 fn with_proved(tally: &mut Tally, before: &Scene, kept: &[u16], closing: &Closing, plain: &Said) {
     let (mut other, mut types) = (before.clone(), kept.to_vec());
     let said = Proved.close(&mut other.head, &mut other.table, &other.code, closing, &mut types);
-    if said != plain.verdict || other.head != plain.scene.head || other.table != plain.scene.table || types != plain.types {
-        tally.difference("a closing, plain and proved", format!("plain {:?}, proved {said:?}\nbefore {before:?}\n{closing:?}", plain.verdict));
+    if said != plain.verdict
+        || other.head != plain.scene.head
+        || other.table != plain.scene.table
+        || types != plain.types
+    {
+        tally.difference(
+            "a closing, plain and proved",
+            format!("plain {:?}, proved {said:?}\nbefore {before:?}\n{closing:?}", plain.verdict),
+        );
     }
 }
 
@@ -52,7 +59,8 @@ fn with_published(tally: &mut Tally, before: &Scene, kept: &[u16], closing: &Clo
     let Said { scene, verdict, types } = plain;
     let old = paths(&before.table, before.head.used);
     let mut held = state(&before.table, before.head, &old);
-    let answer = published::close(&before.code, closing.start as usize, closing.packed.map(|word| word_bytes(&word)), &mut held);
+    let answer =
+        published::close(&before.code, closing.start as usize, closing.packed.map(|word| word_bytes(&word)), &mut held);
     let ours = state(&scene.table, scene.head, &paths(&scene.table, scene.head.used));
     if !is_same(&answer, plain, kept) || held != ours {
         tally.difference(

@@ -1,5 +1,5 @@
-//! One call on all three sides, and every number compared: plain reading against proved core whatever the call is; where it is taken, both against
-//! the published source.
+//! One call on all three sides, and every number compared: plain reading against proved core whatever the call is;
+//! where it is taken, both against the published source.
 
 mod closing;
 mod step;
@@ -34,7 +34,10 @@ pub fn fresh(tally: &mut Tally, head: &mut Head, table: &mut [u32]) -> u32 {
     if proved::AT_HAND {
         let said = Proved.fresh(&mut other_head, &mut other_table);
         if (said, other_head, &other_table[..]) != (number, *head, &table[..]) {
-            tally.difference("a fresh call", format!("plain {number} {head:?}, proved {said} {other_head:?}, {} numbers", table.len()));
+            tally.difference(
+                "a fresh call",
+                format!("plain {number} {head:?}, proved {said} {other_head:?}, {} numbers", table.len()),
+            );
         }
     }
     number
@@ -48,7 +51,10 @@ pub fn text(tally: &mut Tally, codes: &[u16], out: &mut [u8]) -> u32 {
     if proved::AT_HAND {
         let proved = Proved.text(codes, &mut other);
         if proved != said || other != out {
-            tally.difference("a text call", format!("plain {said:?}, proved {proved:?}, room {}, codes {codes:?}", out.len()));
+            tally.difference(
+                "a text call",
+                format!("plain {said:?}, proved {proved:?}, room {}, codes {codes:?}", out.len()),
+            );
         }
     }
     said.0

@@ -29,10 +29,17 @@ pub fn step(tally: &mut Tally, scene: &mut Scene, step: &[u32], form: u32) -> u3
 fn with_proved(tally: &mut Tally, before: &Scene, scene: &Scene, step: &[u32], number: u32) {
     let mut other = before.clone();
     let said = Proved.step(&mut other.head, &mut other.table, &other.code, &mut other.stack, &mut other.memory, step);
-    if said != number || other.head != scene.head || other.table != scene.table || other.stack != scene.stack || other.memory != scene.memory {
+    if said != number
+        || other.head != scene.head
+        || other.table != scene.table
+        || other.stack != scene.stack
+        || other.memory != scene.memory
+    {
         tally.difference(
             "a step, plain and proved",
-            format!("plain {number}, proved {said}\nbefore {before:?}\nstep {step:?}\nplain {scene:?}\nproved {other:?}"),
+            format!(
+                "plain {number}, proved {said}\nbefore {before:?}\nstep {step:?}\nplain {scene:?}\nproved {other:?}"
+            ),
         );
     }
 }
@@ -43,8 +50,12 @@ fn with_published(tally: &mut Tally, before: &Scene, scene: &Scene, step: &[u32]
     let mut held = state(&before.table, before.head, &old);
     let mut stack = slots(&before.stack, &old);
     let mut memory = entries(&before.memory, &old);
-    let handed =
-        Step { op: step[0] as u8, pc: step[1] as usize, args: [slot(&step[2..23], &old), slot(&step[23..44], &old)], load: load(step, &old, form) };
+    let handed = Step {
+        op: step[0] as u8,
+        pc: step[1] as usize,
+        args: [slot(&step[2..23], &old), slot(&step[23..44], &old)],
+        load: load(step, &old, form),
+    };
     let failed = published::analyze(&before.code, &mut held, &mut stack, &mut memory, &handed);
     let new = paths(&scene.table, scene.head.used);
     let ours = (state(&scene.table, scene.head, &new), slots(&scene.stack, &new), entries(&scene.memory, &new));

@@ -29,7 +29,11 @@ pub fn state(table: &[u32], head: Head, paths: &[Path]) -> State {
         })
         .collect();
     facts.sort();
-    State { facts, not_bool: records().filter(|(f, _)| f[NOT_BOOL] == 1).map(|(_, path)| path.clone()).collect(), active: head.active == 1 }
+    State {
+        facts,
+        not_bool: records().filter(|(f, _)| f[NOT_BOOL] == 1).map(|(_, path)| path.clone()).collect(),
+        active: head.active == 1,
+    }
 }
 
 pub fn tag(label: &[u32], paths: &[Path]) -> Tag {
@@ -69,7 +73,11 @@ fn other_bytes(i: usize) -> Vec<u8> {
 
 pub fn entries(memory: &[u32], paths: &[Path]) -> Vec<Entry> {
     let bytes = |i: usize, replaced: u32| if replaced == 1 { ONE.to_vec() } else { other_bytes(i) };
-    memory.chunks(ENTRY).enumerate().map(|(i, n)| Entry { offset: n[0], bytes: bytes(i, n[1]), tag: tag(&n[2..15], paths) }).collect()
+    memory
+        .chunks(ENTRY)
+        .enumerate()
+        .map(|(i, n)| Entry { offset: n[0], bytes: bytes(i, n[1]), tag: tag(&n[2..15], paths) })
+        .collect()
 }
 
 /// A load that the flag 0 stands for, in one of the forms that it has; or the one of flag 1.

@@ -7,7 +7,9 @@ use crate::{compare::Scene, core::*, plain::numbers::*};
 pub fn aimed(r: &mut Random, scene: &Scene, op: u8, first: &mut [u32; SLOT], second: &mut [u32; SLOT]) {
     let mut label = arg(r, scene);
     label[4..].fill(0);
-    let (with, bare) = if matches!(op, 0x35 | 0x37 | 0x54 | 0x15 | 0x53 | 0xf1 | 0xf2 | 0xf4 | 0xfa) || matches!(op, 0x10 | 0x11) && r.one_in(2) {
+    let (with, bare) = if matches!(op, 0x35 | 0x37 | 0x54 | 0x15 | 0x53 | 0xf1 | 0xf2 | 0xf4 | 0xfa)
+        || matches!(op, 0x10 | 0x11) && r.one_in(2)
+    {
         (first, second)
     } else {
         (second, first)
@@ -38,7 +40,8 @@ fn aim(r: &mut Random, scene: &Scene, op: u8, label: &mut [u32; LABEL]) -> u32 {
         0x1b | 0x1c => 8 * r.below(34) as u32,
         _ => {
             // one with a range name, if there is one
-            let ranged = (1..scene.head.used as usize).find(|n| scene.table[n * RECORD + CONFIDENCE] == RANGE && !r.one_in(4));
+            let ranged =
+                (1..scene.head.used as usize).find(|n| scene.table[n * RECORD + CONFIDENCE] == RANGE && !r.one_in(4));
             point_at(scene, ranged, label);
             r.below(40) as u32
         }

@@ -35,7 +35,8 @@ pub fn arg(r: &mut Random, scene: &Scene) -> [u32; LABEL] {
     label
 }
 
-/// The key of a record's first or second child, 0 if there is none. The table may be damaged, so that the numbers are asked first.
+/// The key of a record's first or second child, 0 if there is none. The table may be damaged, so that the numbers are
+/// asked first.
 fn key_below(r: &mut Random, scene: &Scene, path: usize, used: usize) -> u32 {
     let at = |n: u32| &scene.table[(n as usize - 1) * RECORD..];
     let is_used = |n: u32| n > 0 && n as usize <= used;

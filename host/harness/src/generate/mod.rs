@@ -1,5 +1,5 @@
-//! Random codes, tables, labels and steps. The choices lean to what the arms look for, so that every branch is met; nothing else depends on them.
-//! Their order is part of what a seed means: a choice more or less gives other calls.
+//! Random codes, tables, labels and steps. The choices lean to what the arms look for, so that every branch is met;
+//! nothing else depends on them. Their order is part of what a seed means: a choice more or less gives other calls.
 
 mod aimed;
 mod codes;

@@ -26,7 +26,8 @@ fn name(r: &mut Random) -> u32 {
     }
 }
 
-/// A sound table of so many used records and so many free ones. Shape 0 is any, 1 one deep chain of levels, 2 two long chains through each other.
+/// A sound table of so many used records and so many free ones. Shape 0 is any, 1 one deep chain of levels, 2 two long
+/// chains through each other.
 pub fn table(r: &mut Random, used: usize, free: usize, shape: usize) -> (Head, Vec<u32>) {
     let mut table = vec![0; (used + free) * RECORD];
     table[SEEN] = 1;
@@ -43,7 +44,7 @@ pub fn table(r: &mut Random, used: usize, free: usize, shape: usize) -> (Head, V
         }
     }
     link(&mut table, &mut children);
-    (Head { used: used as u32, active: u32::from(!r.one_in(4)) }, table)
+    (Head::new(used as u32, u32::from(!r.one_in(4))), table)
 }
 
 /// A parent and a key for record `n` that no record has yet.
@@ -75,7 +76,9 @@ fn see(r: &mut Random, record: &mut [u32], shape: usize) {
     match r.below(5) {
         0 => (record[KIND], record[COUNT]) = (DYNAMIC, r.pick(&[0, 0, 1, 1, 2, 3, 40])),
         1 => (record[KIND], record[COUNT]) = (ARRAY, r.pick(&[1, 1, 1, 2, 3, 99])),
-        2 if shape == 0 && r.one_in(20) => (record[KIND], record[COUNT]) = (DYNAMIC, r.pick(&[134_217_727, 8190, 8189, 5000])),
+        2 if shape == 0 && r.one_in(20) => {
+            (record[KIND], record[COUNT]) = (DYNAMIC, r.pick(&[134_217_727, 8190, 8189, 5000]))
+        }
         _ => (),
     }
     if r.one_in(2) {

@@ -1,4 +1,5 @@
-//! Generated contracts: a dispatcher with one function, which takes its arguments in as Solidity's or Vyper's decoders do.
+//! Generated contracts: a dispatcher with one function, which takes its arguments in as Solidity's or Vyper's decoders
+//! do.
 
 use super::{SELECTOR, asm::Asm};
 use crate::generate::Random;

@@ -1,5 +1,6 @@
-//! Whole runs of the published machine on small contracts, written in the manner of Solidity's and Vyper's decoders: each step that the machine hands
-//! to `analyze` goes to our sides too, on one table that they carry along; at the end our list is held against that of `function_arguments`.
+//! Whole runs of the published machine on small contracts, written in the manner of Solidity's and Vyper's decoders:
+//! each step that the machine hands to `analyze` goes to our sides too, on one table that they carry along; at the end
+//! our list is held against that of `function_arguments`.
 
 mod asm;
 mod contracts;

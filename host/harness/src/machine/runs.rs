@@ -25,7 +25,10 @@ pub fn run(code: &[u8], tally: &mut Tally) -> Option<(u64, usize)> {
         Verdict::Refused(_) => false,
     };
     if !good {
-        tally.difference("a run", format!("{verdict:?} {:?}, published {published:?}, code {code:02x?}", &types[..published.len().max(8)]));
+        tally.difference(
+            "a run",
+            format!("{verdict:?} {:?}, published {published:?}, code {code:02x?}", &types[..published.len().max(8)]),
+        );
     }
     Some((steps, published.len()))
 }

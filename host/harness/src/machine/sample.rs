@@ -14,10 +14,6 @@ use crate::{
 
 /// Writes the two files.
 pub fn write_sample(seed: u64, runs: u64) -> bool {
-    if !published::AT_HAND {
-        println!("the published source is not at hand: no sample is made");
-        return false;
-    }
     let mut r = Random(seed);
     let (mut stdin, mut stdout, mut found, mut passed) = (Vec::new(), String::new(), 0, 0);
     while found < runs {
@@ -30,8 +26,13 @@ pub fn write_sample(seed: u64, runs: u64) -> bool {
         put_named(&mut stdin, &name, &data);
         stdout += &format!("{name}\n{lines}");
     }
-    println!("{found} runs, {} and {} bytes; {passed} passed over: no function found, or larger than the printer takes", stdin.len(), stdout.len());
-    std::fs::write("sample.stdin", stdin).and_then(|()| std::fs::write("sample.stdout", stdout)).is_ok()
+    println!(
+        "{found} runs, {} and {} bytes; {passed} passed over: no function found, or larger than the printer takes",
+        stdin.len(),
+        stdout.len()
+    );
+    let written = std::fs::write("sample.stdin", stdin).and_then(|()| std::fs::write("sample.stdout", stdout));
+    written.inspect_err(|error| eprintln!("sample.stdin or sample.stdout: {error}")).is_ok()
 }
 
 /// One trace as the program `replay` reads it: the name in 40 bytes, its length and the trace's, and the trace.
@@ -57,9 +58,9 @@ fn runs_of(data: &[u8]) -> Vec<u8> {
     out
 }
 
-/// A run as the trace printer's input, and its lines: the types are the published list's own; which of none and over, and what is left, are our
-/// closing's, since the published program tells neither. None if no function was found or the run does not fit the printer's sizes. A difference
-/// between the sides ends the program.
+/// A run as the trace printer's input, and its lines: the types are the published list's own; which of none and over,
+/// and what is left, are our closing's, since the published program tells neither. None if no function was found or the
+/// run does not fit the printer's sizes. A difference between the sides ends the program.
 fn sample(code: &[u8]) -> Option<(Vec<u8>, String)> {
     let mut tally = Tally::new();
     let mut ours = Ours::begin(&mut tally, code, 0);
@@ -82,7 +83,8 @@ fn sample(code: &[u8]) -> Option<(Vec<u8>, String)> {
     Some((trace(code, pc as u32, packed, &calls), lines(verdict, &published)))
 }
 
-/// The printer's input: the code's length, the start, the packed word, the code, and the steps with their slots and entries.
+/// The printer's input: the code's length, the start, the packed word, the code, and the steps with their slots and
+/// entries.
 fn trace(code: &[u8], start: u32, packed: Option<[u32; 8]>, calls: &[Call]) -> Vec<u8> {
     let mut data = bytes(&[code.len() as u32, start, u32::from(packed.is_some())]);
     data.extend(bytes(&packed.unwrap_or([0; 8])));
@@ -101,7 +103,8 @@ fn bytes(numbers: &[u32]) -> Vec<u8> {
     numbers.iter().flat_map(|n| n.to_le_bytes()).collect()
 }
 
-/// The printer's lines for the published codes; left is the closing's, which the comparison holds against the published budget.
+/// The printer's lines for the published codes; left is the closing's, which the comparison holds against the published
+/// budget.
 fn lines(verdict: Verdict, codes: &[u16]) -> String {
     match verdict {
         Verdict::None => "none\n".into(),

@@ -1,14 +1,11 @@
 //! Time for each step, of the source and of the core.
 
 use super::{SELECTOR, contracts::contract, watched::Ours};
-use crate::{compare::Tally, core::*, generate::Random, proved, report};
+use crate::{compare::Tally, core::*, generate::Random, proved, sides};
 use std::time::{Duration, Instant};
 
 pub fn speed(seed: u64, runs: u64) -> bool {
-    report::sides();
-    if !published::AT_HAND || !proved::AT_HAND {
-        return true;
-    }
+    sides::say();
     for records in [64, 1480] {
         let mut r = Random(seed);
         let (mut steps, mut source, mut core) = (0, Duration::ZERO, Duration::ZERO);
@@ -18,20 +15,25 @@ pub fn speed(seed: u64, runs: u64) -> bool {
             }
         }
         let each = |time: Duration| time.as_nanos() / u128::from(steps.max(1));
-        println!("{steps} steps, {records} records: analyze {} ns, the core's step {} ns for each", each(source), each(core));
+        println!(
+            "{steps} steps, {records} records: analyze {} ns, the core's step {} ns for each",
+            each(source),
+            each(core)
+        );
     }
     true
 }
 
-/// Times for one contract's steps: the source's `analyze`, and the core on a table of so many records. The core's part asks the
-/// questions each time, soundness of the whole table among them; the source's asks none. Conversions are not counted on either side.
+/// Times for one contract's steps: the source's `analyze`, and the core on a table of so many records. The core's part
+/// asks the questions each time, soundness of the whole table among them; the source's asks none. Conversions are not
+/// counted on either side.
 fn times(code: &[u8], core: &dyn Core, records: usize) -> Option<(u64, Duration, Duration)> {
     let mut tally = Tally::new();
     let mut ours = Ours::begin(&mut tally, code, 0);
     published::watch(code, SELECTOR, 0, &mut ours);
     ours.start?;
     let (mut calls, steps, source) = (ours.calls, ours.steps, ours.spent);
-    let (mut head, mut table) = (Head { used: 0, active: 0 }, vec![0; records * RECORD]);
+    let (mut head, mut table) = (Head::default(), vec![0; records * RECORD]);
     core.fresh(&mut head, &mut table);
     let begun = Instant::now();
     for (numbers, stack, memory) in &mut calls {

@@ -28,21 +28,26 @@ impl<'a> Ours<'a> {
     /// A fresh table, in place of one that holds `old` everywhere.
     pub fn begin(tally: &'a mut Tally, code: &[u8], old: u32) -> Self {
         let scene = Scene {
-            head: Head { used: 0, active: 0 },
+            head: Head::default(),
             table: vec![old; RECORDS * RECORD],
             code: code.to_vec(),
             stack: Vec::new(),
             memory: Vec::new(),
         };
-        let mut ours = Ours { tally, scene, start: None, memory: Vec::new(), steps: 0, calls: Vec::new(), spent: Duration::ZERO };
+        let mut ours =
+            Ours { tally, scene, start: None, memory: Vec::new(), steps: 0, calls: Vec::new(), spent: Duration::ZERO };
         compare::fresh(ours.tally, &mut ours.scene.head, &mut ours.scene.table);
         ours
     }
 
     /// The step as numbers; none if a path or the place is in none of our records or numbers.
     fn numbers(&self, step: &Step, stack: &[Slot], memory: &[Entry]) -> Option<Call> {
-        let records: HashMap<Path, u32> =
-            compare::paths(&self.scene.table, self.scene.head.used).into_iter().enumerate().skip(1).map(|(n, path)| (path, n as u32)).collect();
+        let records: HashMap<Path, u32> = compare::paths(&self.scene.table, self.scene.head.used)
+            .into_iter()
+            .enumerate()
+            .skip(1)
+            .map(|(n, path)| (path, n as u32))
+            .collect();
         let slot = |slot: &Slot| Some([&word_numbers(&slot.word)[..], &put_label(&slot.tag, &records)?].concat());
         let mut slots = Vec::new();
         for held in stack {
@@ -82,13 +87,19 @@ fn put_label(tag: &Tag, records: &HashMap<Path, u32>) -> Option<[u32; LABEL]> {
 
 /// The entry that a copy to this place meets, as document 01 counts it: 0 if there is none.
 fn pick(step: &Step, offset: u32, memory: &[Entry]) -> u32 {
-    if step.op == 0x37 { memory.iter().rposition(|entry| entry.offset == offset).map_or(0, |at| at as u32 + 1) } else { 0 }
+    if step.op == 0x37 {
+        memory.iter().rposition(|entry| entry.offset == offset).map_or(0, |at| at as u32 + 1)
+    } else {
+        0
+    }
 }
 
 /// The label of a load of one whole word; all else has none.
 fn load_label(step: &Step, records: &HashMap<Path, u32>) -> Option<[u32; LABEL]> {
     match &step.load {
-        Some((32, chunks)) if step.op == 0x51 && chunks.len() == 1 && chunks[0].from == 0 && chunks[0].to == 32 => put_label(&chunks[0].tag, records),
+        Some((32, chunks)) if step.op == 0x51 && chunks.len() == 1 && chunks[0].from == 0 && chunks[0].to == 32 => {
+            put_label(&chunks[0].tag, records)
+        }
         _ => Some([0; LABEL]),
     }
 }
@@ -107,7 +118,8 @@ impl Watcher for Ours<'_> {
                 (self.scene.stack, self.scene.memory) = (slots, entries);
                 let number = compare::step(self.tally, &mut self.scene, &numbers, 0);
                 if number != 0 {
-                    self.tally.difference("a run", format!("step {} of a run refused by {number}: {step:?}", self.steps));
+                    self.tally
+                        .difference("a run", format!("step {} of a run refused by {number}: {step:?}", self.steps));
                 }
             }
             None => self.tally.difference("a run", format!("a label's path is no record: {step:?}")),
@@ -133,7 +145,10 @@ impl Watcher for Ours<'_> {
         if failed || &ours != state || slots != stack || entries != memory {
             self.tally.difference(
                 "a run",
-                format!("after step {}\nours {ours:?} {slots:?} {entries:?}\npublished {state:?} {stack:?} {memory:?}", self.steps),
+                format!(
+                    "after step {}\nours {ours:?} {slots:?} {entries:?}\npublished {state:?} {stack:?} {memory:?}",
+                    self.steps
+                ),
             );
         }
     }

@@ -25,7 +25,8 @@ pub fn close(head: &mut Head, table: &mut [u32], code: &[u8], closing: &Closing,
     list(&facts, types)
 }
 
-/// The questions that come before the words are filled in: the number of the first that is answered no, 0 if there is none.
+/// The questions that come before the words are filled in: the number of the first that is answered no, 0 if there is
+/// none.
 fn questions(head: Head, table: &[u32], code: &[u8], types: &[u16]) -> u32 {
     let refused = first_three(head, table, code);
     if refused != 0 {

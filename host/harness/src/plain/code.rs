@@ -1,4 +1,5 @@
-//! What is read in the code: jump guards, empty reverts, division checks and checked lengths. A place beyond the code reads as nothing.
+//! What is read in the code: jump guards, empty reverts, division checks and checked lengths. A place beyond the code
+//! reads as nothing.
 
 use crate::core::Closing;
 
@@ -30,8 +31,14 @@ pub fn is_empty_revert(code: &[u8], pc: usize, less_than: bool) -> bool {
         return false;
     };
     let place = place + usize::from(code.get(place) == Some(&0x5b));
-    let forms: [&[u8]; 6] =
-        [&[0x5f, 0x5f, 0xfd], &[0x5f, 0x80, 0xfd], &[0x5f, 0x60, 0, 0xfd], &[0x60, 0, 0x5f, 0xfd], &[0x60, 0, 0x80, 0xfd], &[0x60, 0, 0x60, 0, 0xfd]];
+    let forms: [&[u8]; 6] = [
+        &[0x5f, 0x5f, 0xfd],
+        &[0x5f, 0x80, 0xfd],
+        &[0x5f, 0x60, 0, 0xfd],
+        &[0x60, 0, 0x5f, 0xfd],
+        &[0x60, 0, 0x80, 0xfd],
+        &[0x60, 0, 0x60, 0, 0xfd],
+    ];
     forms.iter().any(|form| code[place..].starts_with(form))
 }
 
@@ -47,7 +54,8 @@ pub fn is_division_check(code: &[u8], pc: usize) -> bool {
     code.get(target) == Some(&0x5b) && code.get(target + 1) == Some(&0x04)
 }
 
-/// The least length of the call data that the code at the closing's start asks for, written there or taken from the packed word.
+/// The least length of the call data that the code at the closing's start asks for, written there or taken from the
+/// packed word.
 pub fn least_size(code: &[u8], closing: &Closing) -> Option<usize> {
     let start = closing.start as usize;
     let pc = start + usize::from(code.get(start) == Some(&0x5b));

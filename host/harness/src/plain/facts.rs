@@ -79,8 +79,8 @@ impl Facts {
         self.at_mut(found)[NOT_BOOL] = 1;
     }
 
-    /// A bool or range name stops at a not-bool mark before any record is made seen; a blocked range name stops after that. An equal or lower
-    /// confidence never replaces.
+    /// A bool or range name stops at a not-bool mark before any record is made seen; a blocked range name stops after
+    /// that. An equal or lower confidence never replaces.
     pub fn set_name(&mut self, r: u32, key: u32, name: u32, confidence: u32) {
         let marked = self.find(r, key).is_some_and(|found| self.at(found)[NOT_BOOL] == 1);
         if marked && (name == BOOL || confidence == RANGE) {

@@ -1,5 +1,5 @@
-//! Document 01 read plainly: the questions one by one, then the step and the closing on records. It knows nothing of speed. The published source has
-//! no record numbers and refuses nothing, so this reading decides these.
+//! Document 01 read plainly: the questions one by one, then the step and the closing on records. It knows nothing of
+//! speed. The published source has no record numbers and refuses nothing, so this reading decides these.
 
 mod closing;
 mod code;
@@ -24,11 +24,19 @@ impl Core for Plain {
         }
         table.fill(0);
         table[numbers::SEEN] = 1;
-        *head = Head { used: 1, active: 1 };
+        *head = Head::new(1, 1);
         0
     }
 
-    fn step(&self, head: &mut Head, table: &mut [u32], code: &[u8], stack: &mut [u32], memory: &mut [u32], step: &[u32]) -> u32 {
+    fn step(
+        &self,
+        head: &mut Head,
+        table: &mut [u32],
+        code: &[u8],
+        stack: &mut [u32],
+        memory: &mut [u32],
+        step: &[u32],
+    ) -> u32 {
         match questions::questions(*head, table, code, stack, memory, step) {
             0 => step::step(head, table, code, stack, memory, step),
             refused => refused,

@@ -1,4 +1,5 @@
-//! The numbers of document 01: places in a record, kinds of facts and labels, type names and the confidence of a range name.
+//! The numbers of document 01: places in a record, kinds of facts and labels, type names and the confidence of a range
+//! name.
 
 // places in a record
 pub const KEY: usize = 0;
@@ -32,5 +33,5 @@ pub const STRING: u32 = 4;
 pub const RANGE: u32 = 6;
 
 pub fn is_name(code: u32) -> bool {
-    matches!(code, 1..=4 | 3001..=3032) || matches!(code, 1008..=1256 | 2008..=2256) && code % 1000 % 8 == 0
+    matches!(code, 1..=4 | 3001..=3032) || matches!(code, 1008..=1256 | 2008..=2256) && (code % 1000).is_multiple_of(8)
 }

@@ -30,7 +30,7 @@ pub fn questions(head: Head, table: &[u32], code: &[u8], stack: &[u32], memory: 
     if refused != 0 {
         return refused;
     }
-    let whole = |part: &[u32], width: usize| part.len() % width == 0 && part.len() / width <= 1024;
+    let whole = |part: &[u32], width: usize| part.len().is_multiple_of(width) && part.len() / width <= 1024;
     if !whole(stack, SLOT) || !whole(memory, ENTRY) || step.len() != STEP {
         return 4;
     }
@@ -40,7 +40,11 @@ pub fn questions(head: Head, table: &[u32], code: &[u8], stack: &[u32], memory: 
         return 5;
     }
     let (op, pick, flag) = (step[0], step[44], step[45]);
-    if op > 255 || pick as usize > memory.len() / ENTRY || flag > 1 || (flag == 1) != (step[46] != 0) || op == 0x37 && small(&step[23..31]).is_none()
+    if op > 255
+        || pick as usize > memory.len() / ENTRY
+        || flag > 1
+        || (flag == 1) != (step[46] != 0)
+        || op == 0x37 && small(&step[23..31]).is_none()
     {
         return 6;
     }

@@ -4,7 +4,7 @@ use super::numbers::*;
 use crate::core::RECORD;
 
 pub fn is_table(table: &[u32]) -> bool {
-    table.len() % RECORD == 0 && (1..=16_384).contains(&(table.len() / RECORD))
+    table.len().is_multiple_of(RECORD) && (1..=16_384).contains(&(table.len() / RECORD))
 }
 
 pub fn is_sound(table: &[u32], used: u32) -> bool {
@@ -31,7 +31,11 @@ fn chains_hold(table: &[u32], used: u32) -> bool {
         let (mut next, mut low) = (at(table, r)[CHILD], None);
         while next != 0 {
             // a parent has the lower number; a chain holds used children of its own record alone, keys strictly rising
-            if next <= r || next > used || at(table, next)[PARENT] != r || low.is_some_and(|key| at(table, next)[KEY] <= key) {
+            if next <= r
+                || next > used
+                || at(table, next)[PARENT] != r
+                || low.is_some_and(|key| at(table, next)[KEY] <= key)
+            {
                 return false;
             }
             stands[next as usize] += 1;
@@ -46,7 +50,8 @@ fn chains_hold(table: &[u32], used: u32) -> bool {
 fn record_holds(table: &[u32], r: u32) -> bool {
     let f = at(table, r);
     let flags = f[SEEN] <= 1 && f[NOT_BOOL] <= 1 && f[BLOCKED] <= 1;
-    let seen = if f[SEEN] == 1 { r == 1 || at(table, f[PARENT])[SEEN] == 1 } else { f[BLOCKED..].iter().all(|n| *n == 0) };
+    let seen =
+        if f[SEEN] == 1 { r == 1 || at(table, f[PARENT])[SEEN] == 1 } else { f[BLOCKED..].iter().all(|n| *n == 0) };
     let count = match f[KIND] {
         0 => f[COUNT] == 0,
         DYNAMIC => f[COUNT] <= 134_217_727,

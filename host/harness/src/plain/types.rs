@@ -17,7 +17,12 @@ impl Facts {
     pub fn words(&self, r: u32) -> Vec<Vec<u16>> {
         let first = if self.at(r)[KIND] == ARRAY { 1 } else { 0 };
         let children = self.seen_children(r);
-        let one = |word: u32| children.iter().find(|child| self.at(**child)[KEY] == 32 * word).map_or(vec![1256], |child| self.type_of(*child));
+        let one = |word: u32| {
+            children
+                .iter()
+                .find(|child| self.at(**child)[KEY] == 32 * word)
+                .map_or(vec![1256], |child| self.type_of(*child))
+        };
         (first..=self.last_word(r)).map(one).collect()
     }
 
@@ -40,7 +45,9 @@ impl Facts {
             (ARRAY, _) => array_of(joined(&words)),
             (DYNAMIC, None) if end == 0 => vec![BYTES as u16],
             (DYNAMIC, None) if end == 32 => array_of(vec![1256]),
-            (DYNAMIC, Some(one)) if end == 32 && children.len() == 1 && self.at(*one)[KIND] == 0 => array_of(words[1].clone()),
+            (DYNAMIC, Some(one)) if end == 32 && children.len() == 1 && self.at(*one)[KIND] == 0 => {
+                array_of(words[1].clone())
+            }
             _ => joined(&words),
         }
     }

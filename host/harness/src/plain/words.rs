@@ -19,7 +19,8 @@ pub fn sum(word: &[u32], added: u32) -> [u32; 8] {
     out
 }
 
-/// The type name that a mask stands for, 0 if none: ones from the low end are asked for first, so that all ones are a uint256.
+/// The type name that a mask stands for, 0 if none: ones from the low end are asked for first, so that all ones are a
+/// uint256.
 pub fn mask_type(mask: &[u32]) -> u32 {
     let bytes = word_bytes(mask);
     let low = bytes.iter().rev().take_while(|byte| **byte == 0xff).count();

@@ -85,7 +85,18 @@ mod tests {
 
     #[test]
     fn equal_if_spelled_alike() {
-        let all = [Bool, Int(8), Int(16), Uint(8), FixedBytes(8), Address, Bytes, String, Array(Box::new(Bool)), Tuple(vec![Bool, Bool])];
+        let all = [
+            Bool,
+            Int(8),
+            Int(16),
+            Uint(8),
+            FixedBytes(8),
+            Address,
+            Bytes,
+            String,
+            Array(Box::new(Bool)),
+            Tuple(vec![Bool, Bool]),
+        ];
         for a in &all {
             for b in &all {
                 assert_eq!(a == b, a.name() == b.name());

@@ -1,5 +1,9 @@
-//! 256-bit numbers: what the published source uses of the crate of this name. Sums, differences, products and powers are taken modulo 2^256, and a
-//! shift by 256 or more gives 0 whatever the shift's low bits are (docs/DIFFERENCES.md, 1: the crate may look at them).
+//! 256-bit numbers: what the published source uses of the crate of this name. Sums, differences, products and powers
+//! are taken modulo 2^256, and a shift by 256 or more gives 0 whatever the shift's low bits are (docs/DIFFERENCES.md,
+//! 1: the crate may look at them).
+
+// the limbs of several numbers go side by side
+#![allow(clippy::needless_range_loop)]
 
 mod signed;
 mod unsigned;

@@ -22,7 +22,10 @@ impl U256 {
             value = value * 10 + (bytes[i] - b'0') as u64;
             i += 1;
         }
-        assert!(i > 0 && bytes.len() == i + 5 && bytes[i] == b'_' && bytes[i + 1] == b'U', "a decimal literal with _U256 behind it");
+        assert!(
+            i > 0 && bytes.len() == i + 5 && bytes[i] == b'_' && bytes[i + 1] == b'U',
+            "a decimal literal with _U256 behind it"
+        );
         Self([value, 0, 0, 0])
     }
 
@@ -37,7 +40,8 @@ impl U256 {
     pub const fn to_le_bytes(self) -> [u8; 32] {
         let mut bytes = [0; 32];
         let [a, b, c, d] = bytes.as_chunks_mut().0 else { unreachable!() };
-        (*a, *b, *c, *d) = (self.0[0].to_le_bytes(), self.0[1].to_le_bytes(), self.0[2].to_le_bytes(), self.0[3].to_le_bytes());
+        (*a, *b, *c, *d) =
+            (self.0[0].to_le_bytes(), self.0[1].to_le_bytes(), self.0[2].to_le_bytes(), self.0[3].to_le_bytes());
         bytes
     }
 
@@ -96,7 +100,7 @@ impl U256 {
             for i in by / 64..4 {
                 let from = i - by / 64;
                 out[i] = self.0[from] << (by % 64);
-                if by % 64 != 0 && from > 0 {
+                if !by.is_multiple_of(64) && from > 0 {
                     out[i] |= self.0[from - 1] >> (64 - by % 64);
                 }
             }
@@ -111,7 +115,7 @@ impl U256 {
             for i in 0..4 - by / 64 {
                 let from = i + by / 64;
                 out[i] = self.0[from] >> (by % 64);
-                if by % 64 != 0 && from < 3 {
+                if !by.is_multiple_of(64) && from < 3 {
                     out[i] |= self.0[from + 1] << (64 - by % 64);
                 }
             }

@@ -134,10 +134,15 @@ fn each_operation() {
             let (quotient, rest) = divided(&a, &b);
             assert_eq!((x / y, x % y), (number(&quotient), number(&rest)));
             let size = |bits: &Bits| if bits[255] { minus(&vec![false; 256], bits) } else { bits.clone() };
-            let signed = |bits: Bits, negative: bool| if negative { number(&minus(&vec![false; 256], &bits)) } else { number(&bits) };
+            let signed = |bits: Bits, negative: bool| {
+                if negative { number(&minus(&vec![false; 256], &bits)) } else { number(&bits) }
+            };
             let (quotient, mut rest) = divided(&size(&a), &size(&b));
             rest.resize(256, false);
-            assert_eq!(I256::from_raw(x).wrapping_div(I256::from_raw(y)).into_raw(), signed(quotient, a[255] != b[255]));
+            assert_eq!(
+                I256::from_raw(x).wrapping_div(I256::from_raw(y)).into_raw(),
+                signed(quotient, a[255] != b[255])
+            );
             assert_eq!((I256::from_raw(x) % I256::from_raw(y)).into_raw(), signed(rest, a[255]));
         }
         if round % 4 == 0 {
@@ -147,8 +152,14 @@ fn each_operation() {
         }
         assert_eq!(u8::try_from(x).ok(), (8..256).all(|i| !a[i]).then(|| x.to_le_bytes()[0]));
         assert_eq!(u16::try_from(x).is_ok(), (16..256).all(|i| !a[i]));
-        assert_eq!(u32::try_from(x).ok(), (32..256).all(|i| !a[i]).then(|| u32::from_le_bytes(x.to_le_bytes()[..4].try_into().unwrap())));
-        assert_eq!(usize::try_from(x).ok(), (64..256).all(|i| !a[i]).then(|| usize::from_le_bytes(x.to_le_bytes()[..8].try_into().unwrap())));
+        assert_eq!(
+            u32::try_from(x).ok(),
+            (32..256).all(|i| !a[i]).then(|| u32::from_le_bytes(x.to_le_bytes()[..4].try_into().unwrap()))
+        );
+        assert_eq!(
+            usize::try_from(x).ok(),
+            (64..256).all(|i| !a[i]).then(|| usize::from_le_bytes(x.to_le_bytes()[..8].try_into().unwrap()))
+        );
     }
 }
 

@@ -1,4 +1,5 @@
-//! A hasher with a fixed start. Sets over it hold what other sets hold; the order in which they go through it is not looked at by the source.
+//! A hasher with a fixed start. Sets over it hold what other sets hold; the order in which they go through it is not
+//! looked at by the source.
 
 pub mod fast {
     use std::hash::{BuildHasher, Hasher};

@@ -10,7 +10,9 @@ impl Run<'_> {
             0x04 | 0x06 | 0x03 | 0x0a | 0x15 | 0x57 | 0x54 => {
                 args.into_iter().flatten().for_each(|arg| self.facts.clear_hint(arg.path, arg.offset, false))
             }
-            0x14 if args.iter().all(Option::is_some) => args.into_iter().flatten().for_each(|arg| self.facts.clear_hint(arg.path, arg.offset, true)),
+            0x14 if args.iter().all(Option::is_some) => {
+                args.into_iter().flatten().for_each(|arg| self.facts.clear_hint(arg.path, arg.offset, true))
+            }
             0xfd if self.active => {
                 for r in 1..=self.facts.0.len() as u32 {
                     if self.facts.at(r)[CONFIDENCE] == RANGE {
@@ -22,8 +24,8 @@ impl Run<'_> {
         }
     }
 
-    /// A bounds check against a constant, whose failure reverts with nothing, names a uint8. If it holds the step ends here, whether or not the name
-    /// went in.
+    /// A bounds check against a constant, whose failure reverts with nothing, names a uint8. If it holds the step ends
+    /// here, whether or not the name went in.
     pub fn range_rule(&mut self) -> bool {
         let (arg, bound, less_than) = match (self.arg(0), self.arg(1)) {
             (Some(arg), None) if self.labels[1][0] == 0 => (arg, self.words[1], self.op == 0x10),

@@ -77,7 +77,8 @@ impl Run<'_> {
     /// The general arm of LT, GT and MUL: a range name stays, and with it the argument is left alone.
     pub fn compared(&mut self) {
         if let Some((arg, _)) = self.first(|_| true) {
-            let hinted = self.facts.find(arg.path, arg.offset).is_some_and(|found| self.facts.at(found)[CONFIDENCE] == RANGE);
+            let hinted =
+                self.facts.find(arg.path, arg.offset).is_some_and(|found| self.facts.at(found)[CONFIDENCE] == RANGE);
             if !hinted {
                 self.mark(arg);
             }

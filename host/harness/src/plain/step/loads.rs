@@ -25,7 +25,7 @@ impl Run<'_> {
     }
 
     fn load_by_label(&mut self, on_stack: bool, arg: Arg) {
-        if arg.added < 4 || (arg.added - 4) % 32 != 0 {
+        if arg.added < 4 || !(arg.added - 4).is_multiple_of(32) {
             return;
         }
         let arrays = if arg.added == 4 { 0 } else { 32 * self.facts.arrays(arg.path) };

@@ -15,10 +15,11 @@ use super::{
 use crate::core::*;
 
 /// The opcodes that end the decoder phase, besides LOG0 to LOG4.
-const STOP_LIST: [u8; 16] = [0x54, 0x55, 0x5c, 0x5d, 0x20, 0x31, 0x3b, 0x3f, 0x3c, 0xf1, 0xf2, 0xf4, 0xfa, 0xf0, 0xf5, 0xff];
+const STOP_LIST: [u8; 16] =
+    [0x54, 0x55, 0x5c, 0x5d, 0x20, 0x31, 0x3b, 0x3f, 0x3c, 0xf1, 0xf2, 0xf4, 0xfa, 0xf0, 0xf5, 0xff];
 
-/// The step's numbers taken apart, with what it changes. All is worked out on copies, since a step that needs more records than there are changes
-/// nothing.
+/// The step's numbers taken apart, with what it changes. All is worked out on copies, since a step that needs more
+/// records than there are changes nothing.
 struct Run<'a> {
     facts: Facts,
     active: bool,
@@ -33,8 +34,16 @@ struct Run<'a> {
     load: Label,
 }
 
-/// Takes the step. The answer is 8 if it needs more records than the table has, which shows when its work is done, else 0.
-pub fn step(head: &mut Head, table: &mut [u32], code: &[u8], stack: &mut [u32], memory: &mut [u32], step: &[u32]) -> u32 {
+/// Takes the step. The answer is 8 if it needs more records than the table has, which shows when its work is done, else
+/// 0.
+pub fn step(
+    head: &mut Head,
+    table: &mut [u32],
+    code: &[u8],
+    stack: &mut [u32],
+    memory: &mut [u32],
+    step: &[u32],
+) -> u32 {
     let mut run = Run {
         facts: Facts::read(table, head.used),
         active: head.active == 1,
@@ -54,7 +63,7 @@ pub fn step(head: &mut Head, table: &mut [u32], code: &[u8], stack: &mut [u32], 
     }
     stack.copy_from_slice(&run.stack);
     memory.copy_from_slice(&run.memory);
-    *head = Head { used: run.facts.0.len() as u32, active: u32::from(run.active) };
+    *head = Head::new(run.facts.0.len() as u32, u32::from(run.active));
     run.facts.write(table);
     0
 }

@@ -27,7 +27,12 @@ impl Run<'_> {
 
     fn add_constant(&mut self, arg: Arg, other: usize) {
         self.mark(arg);
-        if arg.offset == 0 && arg.added == 0 && arg.path != 1 && self.words[1 - other] == [0; 8] && self.words[other] == [u32::MAX; 8] {
+        if arg.offset == 0
+            && arg.added == 0
+            && arg.path != 1
+            && self.words[1 - other] == [0; 8]
+            && self.words[other] == [u32::MAX; 8]
+        {
             self.put_word(0);
         }
         if let Some(added) = small(&sum(&self.words[other], arg.added)) {

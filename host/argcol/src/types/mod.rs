@@ -1,13 +1,24 @@
-use crate::{raw, refused::Refused, word::BadNumbers};
-use std::fmt;
+//! ABI types, their codes and their text.
 
-/// The most codes that a list has.
-pub const TYPES: usize = 8192;
+mod text;
+
+pub use text::{text, text_into};
+
+use crate::{layout::TYPES, numbers::BadNumbers};
+use alloc::{boxed::Box, vec, vec::Vec};
+use core::fmt;
 
 /// An ABI type. A value made by hand may be none, as `Uint(7)`.
 ///
-/// Comparing, hashing, dropping and showing by `{:?}` call themselves once for each level. A closing's types are shallow; a list of 8,192 codes may be of
-/// as many levels, and showing these by `{:?}` takes more than the 2 MB that a thread's stack has by default, if the build isn't optimized.
+/// Its text is the canonical name, which other crates read: for alloy's `DynSolType`
+///
+/// ```text
+/// let ty: alloy_dyn_abi::DynSolType = argcol_type.to_string().parse()?;
+/// ```
+///
+/// Comparing, hashing, dropping and showing by `{:?}` call themselves once for each level. A closing's types are
+/// shallow; a list of 8,192 codes may be of as many levels, and showing these by `{:?}` takes more than the 2 MB that a
+/// thread's stack has by default, if the build isn't optimized.
 #[derive(Debug, PartialEq, Eq, Hash)]
 pub enum Type {
     /// `bool`.
@@ -31,7 +42,20 @@ pub enum Type {
 }
 
 impl Type {
-    /// The types that a list of codes stands for. As question 10 does, it refuses more than 8,192 codes, which bounds the depth of what it gives.
+    /// The types that a list of codes stands for.
+    ///
+    /// # Errors
+    ///
+    /// The codes are no whole number of well-formed types or, as for question 10, more than 8,192, which bounds the
+    /// depth of what it gives.
+    ///
+    /// ```
+    /// use argcol::Type;
+    ///
+    /// assert_eq!(Type::from_codes(&[5, 1, 2])?, [Type::Array(Box::new(Type::Bool)), Type::Address]);
+    /// assert!(Type::from_codes(&[5]).is_err());
+    /// # Ok::<(), argcol::BadNumbers>(())
+    /// ```
     pub fn from_codes(codes: &[u16]) -> Result<Vec<Self>, BadNumbers> {
         if codes.len() > TYPES {
             return Err(BadNumbers("a list has at most 8,192 codes"));
@@ -67,6 +91,12 @@ impl Type {
     }
 
     /// The codes. A part that is no ABI type, as `Uint(7)`, has 0, which is no code.
+    ///
+    /// ```
+    /// use argcol::Type;
+    ///
+    /// assert_eq!(Type::Tuple(vec![Type::Bool, Type::Uint(8)]).codes(), [16_386, 1, 1008]);
+    /// ```
     pub fn codes(&self) -> Vec<u16> {
         self.all().into_iter().map(Self::code).collect()
     }
@@ -125,8 +155,8 @@ impl Clone for Type {
     }
 }
 
-/// The canonical text, by the proved text call. What that call refuses is shown as `Debug` does: a value that is no ABI type, as `Uint(7)`, or one of
-/// more than 8,192 codes, which can only be made by hand.
+/// The canonical text, by the proved text call. What that call refuses is shown as `Debug` does: a value that is no ABI
+/// type, as `Uint(7)`, or one of more than 8,192 codes, which can only be made by hand.
 impl fmt::Display for Type {
     fn fmt(&self, f: &mut fmt::Formatter<'_>) -> fmt::Result {
         match text(&self.codes()) {
@@ -134,20 +164,4 @@ impl fmt::Display for Type {
             Err(_) => write!(f, "{self:?}"),
         }
     }
-}
-
-/// The text of a list of codes: canonical names, joined by commas without blanks.
-pub fn text(codes: &[u16]) -> Result<String, Refused> {
-    // a code writes at most a name of seven bytes and a comma
-    let mut out = vec![0; 8 * codes.len().min(TYPES)];
-    let length = text_into(codes, &mut out)?;
-    out.truncate(length);
-    Ok(String::from_utf8(out).expect("a type's text is ASCII"))
-}
-
-/// The text in a buffer of the caller's, and its length. What lies beyond keeps its value.
-pub fn text_into(codes: &[u16], out: &mut [u8]) -> Result<usize, Refused> {
-    let (number, length) = raw::text(codes, out);
-    Refused::check(number)?;
-    Ok(length)
 }
