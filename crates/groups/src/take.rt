@@ -49,7 +49,7 @@ fn put_step(
     read_numbers(bytes, &mut numbers);
     read_numbers(&bytes[FRONT_BYTES..], stack);
     read_numbers(&bytes[behind..], memory);
-    step::step(head, table, code, stack, memory, &numbers)
+    by_reference::run_step(head, table, code, stack, memory, &numbers)
 }
 
 // The same, with room for the longest stack and memory.

@@ -7,9 +7,9 @@ ghost use Rattle.head.specs.Held.{held};
 ghost use Rattle.closing.specs.Words.{hand};
 ghost use Rattle.closing.specs.Answer.{verdictOf};
 ghost use Rattle.report.specs.Closed.{Reported, Printed};
+use by_reference::run_close;
 use closing::Closing;
 use closing::Packed;
-use closing::close;
 use head::Head;
 use limits::number_of;
 use spell::put_bytes;
@@ -59,7 +59,7 @@ pub fn close_into(
         (held (r .head) (now (table .exit))) (now (types .exit)) ⌝ }
     ensures { λ r. ⌜ r .length ≤ length (now (out .exit)) ⌝ }
 {
-    let closed = close(head, table, code, start, packed, types);
+    let closed = run_close(head, table, code, start, packed, types);
     let next = closed.head;
     let answer = closed.answer;
     let length = put_answer(answer, types, out);

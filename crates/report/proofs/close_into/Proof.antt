@@ -6,7 +6,7 @@ use Rattle.report.proofs.close_into.Tie as tie
 
 returns : tie.Need-returns
 returns c =
-    let o = c .before .before .before .before .before .before .before .before .before .before .close .ensures in
+    let o = c .before .before .before .before .before .before .before .before .before .before .run-close .ensures in
     let said = c .before .before .put-answer .ensures in
     (record { verdict = _; outcome = o; stored = outcome-text _ _ _ _ _ _ _ _ _ o (said .0) }, said .1)
 

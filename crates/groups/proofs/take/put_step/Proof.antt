@@ -13,7 +13,7 @@ returns c =
     let numbers = stack .before .before .before .before in
     let start = numbers .before .before .before .before .before .before .before in
     put-parts _ _ _ _ _ _ _ _ _ _ _ _ _ _ (search needs) (start .pre .1 .0) (start .pre .1 .1) refl (numbers .read-numbers .ensures)
-    (stack .read-numbers2 .ensures) (memory .read-numbers3 .ensures) (called .step .ensures)
+    (stack .read-numbers2 .ensures) (memory .read-numbers3 .ensures) (called .run-step .ensures)
 
 pub put-step-spec : {M : Type 1} → statement M
 put-step-spec =
