@@ -61,7 +61,7 @@ fn refusals() {
             .collect();
         assert_eq!((number, format!("_{name}")), (refused.number(), words));
     }
-    assert_eq!((defined()["TAKEN"], defined()["REFUSED"]), (0, 0));
+    assert_eq!(defined()["TAKEN"], 0);
 }
 
 #[test]
@@ -146,7 +146,7 @@ fn type_codes() {
     assert_eq!(pair.codes(), [code("ARRAY", 0), code("TUPLE", 2), 1, 1]);
 }
 
-/// The kinds of a closing's answer, by what the C function answers.
+/// The kinds of a closing's answer, by what the C function answers; a refusal writes none.
 #[test]
 fn kinds_of_an_answer() {
     let all = defined();
@@ -154,7 +154,7 @@ fn kinds_of_an_answer() {
         raw::closing(&mut Head::new(used, 1), &mut table.to_vec(), code, 0, 0, &[0; 8], &mut [0; TYPES]).kind
     };
     let root = [0, 0, 0, 0, 1, 0, 0, 0, 0, 0, 0];
-    assert_eq!(close(0, &root, &[]), all["REFUSED"]);
+    assert_eq!(close(0, &root, &[]), 0);
     assert_eq!(close(1, &root, &[]), all["NONE"]);
     let lone = |key| [&[0, 0, 2][..], &root[3..], &[key, 1, 0, 0, 1, 0, 0, 0, 0, 0, 0]].concat();
     assert_eq!((close(2, &lone(262_080), &[]), close(2, &lone(262_112), &[])), (all["GRANTED"], all["OVER"]));
