@@ -80,6 +80,7 @@ isPlace (At place) = true
 isPlace Nowhere = false
 
 -- a guarded SHL of an argument by whole bytes checks its type: the bytes, 1 to 32; 0 for a shift that is no such check
+-- (decision D71)
 unfoldable pub bytesShift : List ℕ → ℕ → ℕ → ℕ
 bytesShift bytes pc shift =
     cond (isPlace (guardFailurePc bytes pc true) && between 8 256 shift && eqb (shift % 8) 0) (shift / 8) 0

@@ -35,7 +35,7 @@ call x = onArg (x .first .label) (λ v. markAndName v code.address byTheRest) no
 unfoldable pub mstore8 : Step → Plan
 mstore8 x = onArg (x .first .label) (λ v. markAndName v (code.uint + 8) byMstore8) nothing
 
--- the name that a guarded SHR by `width` gives, none for other widths
+-- the name that a guarded SHR by `width` gives, none for other widths (decision D72)
 unfoldable pub widthName : ℕ → ℕ
 widthName width =
     cond (eqb width 1) code.bool

@@ -41,7 +41,7 @@ clearOperands x =
     (both (clear (x .first .label) (comparesWords x)) (clear (x .second .label) (comparesWords x)))
     (both Nothing Nothing)
 
--- hints cleared: those of the operands, and all of them at a REVERT while the decoder is active
+-- hints cleared: those of the operands, and all of them at a REVERT while the decoder is active (decision D73)
 unfoldable pub hintsOf : Bool → Step → Hints
 hintsOf active x = cond (eqb (x .op) REVERT && active) (both ClearRangeHints Nothing) (clearOperands x)
 

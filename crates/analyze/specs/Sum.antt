@@ -42,7 +42,7 @@ unfoldable pub addBoth : List Node → Val → Val → Plan
 addBoth s f g =
     withStack (twoOperations (mark f) (mark g)) (keptLabel (winner s f g) (keptOf (f .«add_val» + g .«add_val»)))
 
--- `sub(-1) as add(0xff..ff)`: a length that is zero, and 2^256 - 1 added to it
+-- `sub(-1) as add(0xff..ff)`: a length that is zero, and 2^256 - 1 added to it (decision D70)
 unfoldable pub isLessOne : Val → U256 → U256 → Bool
 isLessOne v own other = isLength v && not (eqb (v .path) 1) && eqb (valueOf own) 0 && eqb (valueOf other) (2 ^ 256 - 1)
 
