@@ -1,6 +1,6 @@
 #!/usr/bin/env python3
-"""Makes the traces of crates/replay and of the programs that print one trace: replay.py stdin > crates/replay/stdin, and stdout the same way; replay.py p1-stdin >
-crates/trace_printer/stdin, and p1-stdout the same way; cut-, over-, refused- and filled- those of crates/trace_cut, trace_over, trace_refused and trace_filled.
+"""Makes the traces of crates/replay and crates/trace_printer: replay.py stdin > crates/replay/stdin, and stdout the same way; replay.py p1-stdin >
+crates/trace_printer/stdin, and p1-stdout the same way.
 
 The lines come from the model of closing_model.py, which takes the steps by the model of step_model.py. Each trace has a name, which is printed; the functions
 below say which sentence of document 01 or which lines of the Rust their traces are for. Where the things stand that are easy to get wrong:
@@ -52,14 +52,10 @@ def header(code=b'', start=0, flag=0, packed=0, length=None):
     return u32(len(code) if length is None else length, start, flag, *numbers_of_word(packed)) + code
 
 
-def whole(*steps, code=b'', start=0, packed=None, word=0, count=None, after=b''):
+def add(name, *steps, code=b'', start=0, packed=None, word=0, count=None, after=b''):
     """`packed` is the word at flag 1; `word` the one at flag 0"""
     head = header(code, start, int(packed is not None), word if packed is None else packed)
-    return head + u32(len(steps) if count is None else count) + b''.join(steps) + after
-
-
-def add(name, *steps, **more):
-    raw(name, whole(*steps, **more))
+    raw(name, head + u32(len(steps) if count is None else count) + b''.join(steps) + after)
 
 
 def raw(name, data):
@@ -116,7 +112,6 @@ def dense(size=2, dest=False):
 
 
 P1 = [load(0), dynamic(0), array(2, 1)]
-FULL = [n for i in range(256) for n in slot(i, CALL_DATA)], [n for i in range(256) for n in entry(32 * i)]
 
 
 # ---- the input
@@ -129,9 +124,10 @@ def sizes():
         raw(f'sizes: code of {n} bytes', header(bytes(24577), length=n) + u32(0))
     for flag in (0, 1, 2, TOP):
         raw(f'sizes: packed flag {flag}', header(dense(), flag=flag, packed=68) + u32(0))
-    add('sizes: 256 slots', group(step_numbers(ADD, arg(0), 4), FULL[0]), load(32))
-    add('sizes: 256 entries', group(step_numbers(CALLDATACOPY, 36, 0, pick=256), ONE, FULL[1]))
-    add('sizes: 256 slots and 256 entries', group(step_numbers(CALLDATACOPY, 68, 0, pick=1), *FULL))
+    full = [n for i in range(256) for n in slot(i, CALL_DATA)], [n for i in range(256) for n in entry(32 * i)]
+    add('sizes: 256 slots', group(step_numbers(ADD, arg(0), 4), full[0]), load(32))
+    add('sizes: 256 entries', group(step_numbers(CALLDATACOPY, 36, 0, pick=256), ONE, full[1]))
+    add('sizes: 256 slots and 256 entries', group(step_numbers(CALLDATACOPY, 68, 0, pick=1), *full))
     for slots, entries in ((257, 0), (0, 257), (257, 257), (TOP, 0), (0, TOP), (256, 257)):
         add(f'sizes: {slots} slots {entries} entries', load(0), group(step_numbers(CALLDATALOAD, 36), [], [], slots, entries) + bytes(40000))
     add('sizes: nothing', count=0)
@@ -424,21 +420,6 @@ def damages():
 MAKERS = (sizes, order, cuts, refusals, full, bench, ruled_out, types, deep, fills, lookups, random_traces, damages)
 
 
-# ---- one trace for each program that prints one
-
-ONE_TRACE = {
-    'p1': whole(*P1),
-    # the slot of the last step ends too early
-    'cut': whole(*P1)[:-40],
-    'over': whole(*P1, after=b'\0'),
-    # steps are taken while reading: the second is refused before it shows that the third is cut short
-    'refused': whole(load(0), group(step_numbers(256)), load(32)[:-40]),
-    # the longest code, a packed word, and a step with as many slots and entries as there may be
-    'filled': whole(named(32, 1, 2), group(step_numbers(CALLDATACOPY, 68, 0, pick=256), *FULL), named(96, 1, 1), code=dense().ljust(model.CODE_BYTES, b'\0'),
-                    packed=4 + 32 * 6),
-}
-
-
 # ---- the files
 
 def runs(data):
@@ -462,13 +443,12 @@ def published(part):
 
 
 def main():
-    for name, data in ONE_TRACE.items():
-        if sys.argv[1:] == [name + '-stdin']:
-            sys.stdout.buffer.write(data)
-            return
-        if sys.argv[1:] == [name + '-stdout']:
-            print(model.printed(data), end='')
-            return
+    if sys.argv[1:] == ['p1-stdin']:
+        sys.stdout.buffer.write(header() + u32(3) + b''.join(P1))
+        return
+    if sys.argv[1:] == ['p1-stdout']:
+        print(model.printed(header() + u32(3) + b''.join(P1)), end='')
+        return
     for make in MAKERS:
         make()
     if sys.argv[1:] == ['stdin']:

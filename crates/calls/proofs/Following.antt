@@ -126,7 +126,7 @@ module _ (N : ℕ) (N1 : 1 ≤ N) (NM : N ≤ records_max) where
           sound_first t (step_call.tests_of lent bytes x) admitted.counted admitted.sound number O.asked
           ∙ refusal_is
 
-      pub step_held : (number : ℕ) (l : step_call.Lent) → step_call.Outcome lent bytes x number l → (h : AreU32 x)
+      step_held : (number : ℕ) (l : step_call.Lent) → step_call.Outcome lent bytes x number l → (h : AreU32 x)
           → l.held ≡ held_of N (after N k (step bytes stack memory x h))
       unfolding after
       step_held number l O h =

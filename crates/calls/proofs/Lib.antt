@@ -1,4 +1,4 @@
-pub mod Following
+mod Following
 mod TermLaws
 pub mod Demand3
 pub mod Keeping

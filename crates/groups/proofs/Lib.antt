@@ -1,2 +1,3 @@
+pub mod Wholes
 pub mod Putting
 pub mod Outcomes

@@ -1,4 +1,14 @@
-// A group of the trace printer's input, on slices: the step call with its parts. Nothing here reads or writes a file.
+// A group of the trace printer's input, on slices: are its bytes a whole one, and the step call with its parts. Nothing
+// here reads or writes a file.
 mod take;
+mod whole;
 
+use step::Stepped;
 pub use take::take_group;
+
+// The bytes are no whole group within the sizes, or what the step call answered.
+#[derive(Drop)]
+pub enum GroupAnswer {
+    NotGroup,
+    Step(Stepped),
+}

@@ -3,17 +3,19 @@
 ghost use Rattle.std.specs.Prelude.{◌≡◌, ◌*◌, length};
 ghost use Rattle.limits.specs.Input.{trace_slots_max, trace_entries_max};
 ghost use Rattle.limits.specs.Layout.{slot_width, entry_width};
-ghost use Rattle.head.specs.Held.{held};
 ghost use Rattle.step.specs.Call.{number_of};
 ghost use Rattle.trace.specs.Group.{slot_numbers, entry_numbers};
 ghost use Rattle.groups.specs.Group.{IsGroup};
-ghost use Rattle.groups.specs.Call.{Put};
+ghost use Rattle.head.specs.Held.{held};
+ghost use Rattle.groups.specs.Call.{verdict_of, held_after, Put, Outcome};
 
+use crate::GroupAnswer;
+use crate::whole::is_group;
 use head::Head;
 use limits::input::{NUMBER_BYTES, TRACE_ENTRIES_MAX, TRACE_SLOTS_MAX};
 use limits::layout::{ENTRY_WIDTH, SLOT_WIDTH, STEP_WIDTH};
 use step::Stepped;
-use trace::{entry_count, read_numbers, slot_count};
+use trace::{FRONT_BYTES, entry_count, read_numbers, slot_count};
 
 // Numbers of 256 slots, and of 256 entries.
 const STACK_ROOM: usize = TRACE_SLOTS_MAX * SLOT_WIDTH;
@@ -25,21 +27,20 @@ fn put_step(
     head: Head,
     table: &mut [u32],
     code: &[u8],
-    front: &[u8],
-    rest: &[u8],
+    bytes: &[u8],
     stack: &mut [u32],
     memory: &mut [u32],
 ) -> Stepped
-    requires group { IsGroup front.now rest.now }
-    requires stack_len { (length stack.old ≡ slot_numbers front.now) × (length memory.old ≡ entry_numbers front.now) }
-    ensures { Put (held head table.old) code.now front.now rest.now
+    requires group { IsGroup bytes.now }
+    requires stack_len { (length stack.old ≡ slot_numbers bytes.now) × (length memory.old ≡ entry_numbers bytes.now) }
+    ensures { Put (held head table.old) code.now bytes.now
         (number_of result.answer) (held result.head table.new) }
 {
     let mut numbers = [0u32; STEP_WIDTH];
-    let behind = stack.len() * NUMBER_BYTES;
-    read_numbers(front, &mut numbers);
-    read_numbers(rest, stack);
-    read_numbers(&rest[behind..], memory);
+    let behind = FRONT_BYTES + stack.len() * NUMBER_BYTES;
+    read_numbers(bytes, &mut numbers);
+    read_numbers(&bytes[FRONT_BYTES..], stack);
+    read_numbers(&bytes[behind..], memory);
     by_reference::run_step(head, table, code, stack, memory, &numbers)
 }
 
@@ -48,37 +49,38 @@ fn put_sized(
     head: Head,
     table: &mut [u32],
     code: &[u8],
-    front: &[u8],
-    rest: &[u8],
+    bytes: &[u8],
     stack: &mut [u32],
     memory: &mut [u32],
 ) -> Stepped
-    requires group { IsGroup front.now rest.now }
+    requires group { IsGroup bytes.now }
     requires stack_len { (length stack.old ≡ trace_slots_max * slot_width)
         × (length memory.old ≡ trace_entries_max * entry_width) }
-    ensures { Put (held head table.old) code.now front.now rest.now
+    ensures { Put (held head table.old) code.now bytes.now
         (number_of result.answer) (held result.head table.new) }
 {
-    let s = slot_count(front) as usize * SLOT_WIDTH;
-    let m = entry_count(front) as usize * ENTRY_WIDTH;
+    let s = slot_count(bytes) as usize * SLOT_WIDTH;
+    let m = entry_count(bytes) as usize * ENTRY_WIDTH;
     put_step(
         head,
         table,
         code,
-        front,
-        rest,
+        bytes,
         &mut stack[0..s],
         &mut memory[0..m],
     )
 }
 
-// Takes the step of a whole group.
-pub fn take_group(head: Head, table: &mut [u32], code: &[u8], front: &[u8], rest: &[u8]) -> Stepped
-    requires { IsGroup front.now rest.now }
-    ensures { Put (held head table.old) code.now front.now rest.now
-        (number_of result.answer) (held result.head table.new) }
+// Takes the step of a group, if the bytes are a whole one; if they are not, nothing is changed.
+pub fn take_group(head: Head, table: &mut [u32], code: &[u8], bytes: &[u8]) -> GroupAnswer
+    ensures { Outcome (held head table.old) code.now bytes.now (verdict_of result)
+        (held_after result head table.new) }
 {
+    if !is_group(bytes) {
+        return GroupAnswer::NotGroup;
+    }
     let mut stack = [0u32; STACK_ROOM];
     let mut memory = [0u32; MEMORY_ROOM];
-    put_sized(head, table, code, front, rest, &mut stack, &mut memory)
+    let stepped = put_sized(head, table, code, bytes, &mut stack, &mut memory);
+    GroupAnswer::Step(stepped)
 }

@@ -1,3 +1,1 @@
 pub mod Header
-pub mod Lines
-pub mod Feeding

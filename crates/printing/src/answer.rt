@@ -1,39 +1,50 @@
-// What is stored at the end, at the start of the slice: that the input is refused, or the lines of the closing.
-ghost use Rattle.std.specs.Prelude.{◌≡◌, ◌≤◌, length};
-ghost use Rattle.limits.specs.Input.{trace_code_max};
-ghost use Rattle.spell.specs.Stored.{Stored};
+// What is written.
+ghost use Rattle.std.specs.Prelude.{◌≤◌, length};
+ghost use Rattle.limits.specs.Limits.{codes_max};
 ghost use Rattle.trace.specs.Lines.{list_room};
-ghost use Rattle.printing.specs.Lines.{input_refused, closing_lines};
-ghost use Rattle.printing.specs.Feeding.{handed_in, known_in, Between};
 
-use crate::Session;
+use closing::Packed;
+use head::Head;
+use libc::STDOUT_FILENO;
 use limits::TYPES_ROOM;
 use report::close_into;
-use spell::put_bytes;
+use trace::{LINE_ROOM, LIST_ROOM, put_refused};
 
-// "prints `input refused`".
-pub fn refuse(out: &mut [u8]) -> usize
-    requires { list_room ≤ length out.old }
-    ensures stored { Stored input_refused out.old result out.new }
-    ensures upper_bound { result ≤ length out.new }
-{
-    put_bytes(out, 0, b"input refused\n")
+fn put(text: &[u8]) {
+    io::write_all(STDOUT_FILENO, text);
 }
 
-// The closing, behind the last step.
-pub fn close(session: Session, table: &mut [u32], code: &[u8], out: &mut [u8]) -> usize
-    requires between { Between session table.old }
-    requires code_len { (length code.now ≡ trace_code_max) × (list_room ≤ length out.old) }
-    ensures stored { Stored (closing_lines (handed_in session.header code.now)
-        (known_in session table.old)) out.old result out.new }
-    ensures upper_bound { result ≤ length out.new }
+pub fn refuse_input() {
+    put(b"input refused\n");
+}
+
+// "`refused N at S` (number, step from 1, 0 for closing)".
+pub fn put_refusal(number: u32, step: u32) {
+    let mut line = [0u8; LINE_ROOM];
+    let n = put_refused(&mut line, number, step);
+    put(&line[0..n]);
+}
+
+// Lends room, and writes what is stored there.
+fn put_closing(
+    head: Head,
+    table: &mut [u32],
+    code: &[u8],
+    start: u32,
+    packed: Packed,
+    types: &mut [u16],
+    out: &mut [u8],
+)
+    requires { (length types.old ≤ codes_max) × (list_room ≤ length out.old) }
 {
-    let header = session.header;
-    let head = session.head;
-    let packed = header.packed;
-    let start = header.start;
-    let end = header.length;
+    let stored = close_into(head, table, code, start, packed, types, out);
+    let n = stored.length;
+    put(&out[0..n]);
+}
+
+// The closing, and what it answers.
+pub fn close_trace(head: Head, table: &mut [u32], code: &[u8], start: u32, packed: Packed) {
     let mut types = [0u16; TYPES_ROOM];
-    let closed = close_into(head, table, &code[0..end], start, packed, &mut types, out);
-    closed.length
+    let mut lines = [0u8; LIST_ROOM];
+    put_closing(head, table, code, start, packed, &mut types, &mut lines);
 }

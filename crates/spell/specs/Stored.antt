@@ -1,4 +1,4 @@
--- Bytes stored in a slice. No outcome of a call is written with this; the trace printer's lines are stored so.
+-- Bytes stored in a slice. In these words one function promises another; no outcome is written with them.
 use Rattle.std.specs.Prelude.{ℕ, ◌+◌, ◌≡◌, List, length}
 use Rattle.std.proofs.lemmas.List.Edits.{sets}
 

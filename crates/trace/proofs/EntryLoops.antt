@@ -137,9 +137,9 @@ module _ (entries : ℕ) (cs out₀ : List ℕ) (from at to k : ℕ) (out : List
             (λ j. drop (p j) (cs-is j)) ∙ drop-append_seam (all_codes us) (codes v ++ after) in
             let n-is : n ≡ length (codes v) = en ∙ ap (span 1) (rest_whole ∙ rest-is) ∙ span_type v after good in
             let count_is : at + n - at ≡ length (codes v) = omega arith in
-            let part_is : take (at + n - at) (drop at cs) ≡ codes v =
+            let part-is : take (at + n - at) (drop at cs) ≡ codes v =
             (λ j. take (count_is j) (rest-is j)) ∙ take-append_seam (codes v) after in
-            let entry = subst (λ (x : List ℕ). EntryStored k x out to r out') part_is stored in
+            let entry = subst (λ (x : List ℕ). EntryStored k x out to r out') part-is stored in
             let line = entry_line_lem k v out to r out' good (omega (arith, behind)) entry in
             record {
               done = append us (cons v nil);

@@ -1,5 +1,6 @@
 -- "Here code is at most 24,576 bytes, slots and entries 256 each"; "Input that is .. over these sizes, has a packed
--- flag above 1 .. prints `input refused`".
+-- flag above 1 .. prints `input refused`". In these words one function promises another; no outcome is written with
+-- them.
 use Rattle.std.specs.Prelude.{ℕ, Bool, ◌&&◌, leb}
 use Rattle.limits.specs.Input.{trace_code_max, trace_slots_max, trace_entries_max}
 

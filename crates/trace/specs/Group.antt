@@ -1,4 +1,5 @@
--- The sizes of a group: "for each step its 59 numbers, slot count, entry count, slots, entries".
+-- The sizes of a group: "for each step its 59 numbers, slot count, entry count, slots, entries". The printer reads by
+-- these; no public call's outcome is written with them.
 use Rattle.std.specs.Prelude.{ℕ, ◌+◌, ◌*◌, cond, List}
 use Rattle.limits.specs.Input.{number_bytes, group_width, group_slots, group_entries, trace_slots_max, trace_entries_max}
 use Rattle.limits.specs.Layout.{slot_width, entry_width}

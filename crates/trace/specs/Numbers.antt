@@ -1,4 +1,5 @@
--- "Standard input, u32 little-endian": numbers from bytes.
+-- "Standard input, u32 little-endian": numbers from bytes. The printer reads by these; no public call's outcome is
+-- written with them.
 use Rattle.std.specs.Prelude.{ℕ, zero, suc, ◌+◌, ◌*◌, List, [], ◌∷◌, ◌++◌, get_or}
 use Rattle.limits.specs.Input.{number_bytes}
 

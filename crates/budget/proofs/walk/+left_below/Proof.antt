@@ -11,7 +11,7 @@ use Rattle.paths.proofs.Walk.{left as keys-left}
 use Rattle.paths.proofs.Tail.{has_field}
 use Rattle.paths.proofs.RunLaws.{Run, run_start, run_next, run_end}
 use Rattle.budget.proofs.WalkLaws.{Paying, paying_start, paying_last, paying_over, paying_seen, paying_unseen}
-use Rattle.budget.proofs.WalkLaws.{Cost, cost_deep, cost_call, paying_done, child_field, child_less, child_some, child_above, child_used}
+use Rattle.budget.proofs.WalkLaws.{Cost, cost_deep, cost_leaf, cost_call, paying_done, child_field, child_less, child_some, child_above, child_used}
 use borrow.Fn.Kinds.{In}
 use borrow.Fn.PlainCycle.{Measures, is, falls, and}
 use Rattle.budget.proofs.walk.left_below.Reads as left-below
@@ -51,12 +51,12 @@ abbrev claims : ℕ → left-below-lts.Claims
 claims t = (
   field-reads.Asked,
   field-reads.Learnt,
-  left_below_below t,
-  left-below.Post,
   last-word-reads.Asked,
   last-word-reads.Learnt,
   own-left-reads.Asked,
   own-left-reads.Learnt,
+  left_below_below t,
+  left-below.Post,
 )
 
 -- what is known at the record's own child, seen, however its cost was come to
@@ -78,7 +78,9 @@ cost t j =
     let I = m.loop2.invariant.0 in let n = m.loop2.invariant.1.some in let e = f.field2.ensures in let o = j.before.if1.true in
     ⊎_elim
     (λ w. cost_deep I n e o w.0.taken w.1)
-    (λ w. cost_call I n e o w.1.ensures w.2)
+    (λ v. ⊎_elim
+    (λ w. let d = w.0.left in let h = s.requires.1.1.2 in cost_leaf I n e o s.requires.1.0 (omega (arith, d)) w.1.ensures w.2.taken w.3.ensures (w.5 ∙ w.4.ensures))
+    (λ w. cost_call I n e o w.3.ensures w.4) v)
     j.if2.branch
 
 pub +left_below_spec : {M : Type 1} → statement M
@@ -94,14 +96,20 @@ pub +left_below_spec : {M : Type 1} → statement M
     (λ c. search (paying_start, rules))
     (λ c. search (run_start, rules))
     (λ c κs. search (child_field, rules))
-    (λ c. let s = c.before.before.before.before.before.before.before.before in let d = s.requires.1.1.2 in record { fits = omega arith })
-    (λ c κs. let t1 = c.before in let f = t1.before in let m = f.before in let s = m.before.before.before.before.before in
+    (λ c κs. let m = c.before.before.before in let s = m.before.before.before.before.before in
+    child_field m.loop2.invariant.0 m.loop2.invariant.1.some s.requires.1.0 (omega arith))
+    (λ c κs. let f = c.before in let m = f.before.before.before.before in let s = m.before.before.before.before.before in
+    let a = child_some m.loop2.invariant.0 m.loop2.invariant.1.some in let b = child_used m.loop2.invariant.0 m.loop2.invariant.1.some in
+    (s.requires.1.0, ((a, b), paying_last (paying_start a b {depth = 0} {left = 0} s.requires.1.0 f.field3.ensures) c.if3.true)))
+    (λ c κs. search rules)
+    (λ c. let s = c.before.before.before.before.before.before.before.before.before.before in let d = s.requires.1.1.2 in record { fits = omega arith })
+    (λ c κs. let e2 = c.before.before in let t1 = e2.before in let f = t1.before in let m = f.before in let s = m.before.before.before.before.before in
     let I = m.loop2.invariant.0 in let n = m.loop2.invariant.1.some in
-    let a = child_some I n in let b = child_used I n in let h = child_above I n in let q = s.requires.0 in let d = s.requires.1.1.2 in let e = c.if2.false in
+    let a = child_some I n in let b = child_used I n in let h = child_above I n in let q = s.requires.0 in let d = s.requires.1.1.2 in let e = e2.if2.false in
     (omega arith, (s.requires.1.0, (a, b, omega (arith, e), sym f.field2.ensures ∙ t1.if1.true))))
     (λ c. let j = c.before in let t1 = j.before in let f = t1.before in let m = f.before in let s = m.before.before.before.before.before in
-    paying_over m.loop2.invariant.0 m.loop2.invariant.1.some f.field2.ensures t1.if1.true (cost t j) s.requires.1.1.0 s.requires.1.1.1 s.requires.1.1.2 s.requires.1.1.3 c.if3.true refl)
-    (λ c. let h = c.before.if3.false in omega (arith, h))
+    paying_over m.loop2.invariant.0 m.loop2.invariant.1.some f.field2.ensures t1.if1.true (cost t j) s.requires.1.1.0 s.requires.1.1.1 s.requires.1.1.2 s.requires.1.1.3 c.if4.true refl)
+    (λ c. let h = c.before.if4.false in omega (arith, h))
     (λ c κs. let m = c.before.before.before.before.before in let s = m.before.before.before.before.before in
     child_field m.loop2.invariant.0 m.loop2.invariant.1.some s.requires.1.0 (omega arith))
     (λ c. let m = c.before.before in let s = m.before.before.before.before.before in
@@ -111,19 +119,19 @@ pub +left_below_spec : {M : Type 1} → statement M
     (λ c κs. let m = c.before.before in let s = m.before.before.before.before.before in
     child_field m.loop2.invariant.0 m.loop2.invariant.1.some s.requires.1.0 (omega arith))
     (λ c. search rules)
-    (λ c. let f4 = c.before in let m = f4.before.before.before in let k = m.before.before.before.before in let s = k.before in
-    run_end _ _ _ _ m.loop2.invariant.1 (child_less m.loop2.invariant.0 m.loop2.invariant.1.some s.requires.1.0 s.requires.1.1.0 s.requires.1.1.1 k.shared-slice-known.given f4.field4.ensures))
-    (λ c. let f4 = c.before in let j = f4.before in let f = j.before in let m = f.before in
+    (λ c. let f5 = c.before in let m = f5.before.before.before in let k = m.before.before.before.before in let s = k.before in
+    run_end _ _ _ _ m.loop2.invariant.1 (child_less m.loop2.invariant.0 m.loop2.invariant.1.some s.requires.1.0 s.requires.1.1.0 s.requires.1.1.1 k.shared-slice-known.given f5.field5.ensures))
+    (λ c. let f5 = c.before in let j = f5.before in let f = j.before in let m = f.before in
     ⊎_elim
     (λ w. paying_seen m.loop2.invariant.0 m.loop2.invariant.1.some f.field2.ensures w.0.taken
-    (cost t (record { before = record { before = f; if1 = w.0 }; if2 = w.1 })) w.2.left w.5 (w.6 ∙ w.4.ensures) f4.field4.ensures)
-    (λ w. paying_unseen m.loop2.invariant.0 m.loop2.invariant.1.some f.field2.ensures w.0.left w.1 w.2 f4.field4.ensures)
+    (cost t (record { before = record { before = f; if1 = w.0 }; if2 = w.1 })) w.2.left w.5 (w.6 ∙ w.4.ensures) f5.field5.ensures)
+    (λ w. paying_unseen m.loop2.invariant.0 m.loop2.invariant.1.some f.field2.ensures w.0.left w.1 w.2 f5.field5.ensures)
     j.if1.branch)
     (λ c. search rules)
-    (λ c. let f4 = c.before in let m = f4.before.before.before in let k = m.before.before.before.before in let s = k.before in
-    child_less m.loop2.invariant.0 m.loop2.invariant.1.some s.requires.1.0 s.requires.1.1.0 s.requires.1.1.1 k.shared-slice-known.given (sym c.if4.false ∙ f4.field4.ensures))
-    (λ c. let f4 = c.before in let j = f4.before in let f = j.before in let m = f.before in let k = m.before.before.before.before in let s = k.before in
-    let y = sym c.if4.false ∙ f4.field4.ensures in (
+    (λ c. let f5 = c.before in let m = f5.before.before.before in let k = m.before.before.before.before in let s = k.before in
+    child_less m.loop2.invariant.0 m.loop2.invariant.1.some s.requires.1.0 s.requires.1.1.0 s.requires.1.1.1 k.shared-slice-known.given (sym c.if5.false ∙ f5.field5.ensures))
+    (λ c. let f5 = c.before in let j = f5.before in let f = j.before in let m = f.before in let k = m.before.before.before.before in let s = k.before in
+    let y = sym c.if5.false ∙ f5.field5.ensures in (
       ⊎_elim
           (λ w. paying_seen m.loop2.invariant.0 m.loop2.invariant.1.some f.field2.ensures w.0.taken
           (cost t (record { before = record { before = f; if1 = w.0 }; if2 = w.1 })) w.2.left w.5 (w.6 ∙ w.4.ensures) y)
@@ -136,4 +144,4 @@ pub +left_below_spec : {M : Type 1} → statement M
     (s.requires.1.0, ((s.requires.1.1.0, s.requires.1.1.1), paying_last l.loop.invariant c.loop-test.false)))
     (λ c κs. search rules)
     (λ c. let w = c.before in let l = w.before.before in let s = l.before.before.before in
-    paying_done l.loop.invariant s.requires.1.1.0 s.requires.1.1.1 s.requires.1.1.2 s.requires.1.1.3 w.before.loop-test.false w.last_word.ensures c.own-left.ensures)
+    paying_done l.loop.invariant s.requires.1.1.0 s.requires.1.1.1 s.requires.1.1.2 s.requires.1.1.3 w.before.loop-test.false w.last-word2.ensures c.own-left2.ensures)

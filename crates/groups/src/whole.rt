@@ -1,0 +1,19 @@
+// Are the bytes a whole group?
+ghost use Rattle.facts.specs.Checks.{Tells};
+ghost use Rattle.groups.specs.Group.{IsGroup};
+
+use trace::{FRONT_BYTES, GroupRest, group_rest};
+
+// The front is there, its counts are within the sizes, and the bytes behind it are as many as these ask for.
+pub fn is_group(bytes: &[u8]) -> bool
+    ensures { Tells result (IsGroup bytes.now) }
+{
+    if bytes.len() < FRONT_BYTES {
+        return false;
+    }
+    let rest = group_rest(bytes);
+    match rest {
+        GroupRest::Bytes(n) => bytes.len() == FRONT_BYTES + n,
+        GroupRest::Over => false,
+    }
+}
