@@ -1,19 +1,21 @@
 // What a step does, as data and as definitions: specs/ is the Rust's `analyze`, phase by phase and arm by arm. A step
 // is a plan: operations on the facts, at most one thing that is written to the stack and one to the memory. The crate
 // `arms` makes the plan, and `step` runs it.
+#![tactic(auto)]
+
 use labels::{Label, Val};
 use operations::Operation;
 use word::U256;
 
 // A comparison of an argument with a bound: value < bound where the flag is set, value > bound where it is not.
-#[derive(Drop)]
+#[derive(Clone, Copy)]
 pub enum Comparison {
     Of(Val, U256, bool),
     Nothing,
 }
 
 // What is written to the stack: to the top slot, and for `Ones` first to each slot that holds the length at a path.
-#[derive(Drop)]
+#[derive(Clone, Copy)]
 pub enum OnStack {
     Keep,
     Word(u32),
@@ -27,7 +29,7 @@ pub enum OnStack {
 
 // What is written to the memory: to the entry that was picked, and for `Ones` to each entry that holds the length at a
 // path.
-#[derive(Drop)]
+#[derive(Clone, Copy)]
 pub enum InMemory {
     Keep,
     // pick, label
@@ -39,7 +41,7 @@ pub enum InMemory {
 }
 
 // What a step does behind its first phase, three operations at most.
-#[derive(Drop)]
+#[derive(Clone, Copy)]
 pub struct Plan {
     pub first: Operation,
     pub second: Operation,
@@ -49,7 +51,7 @@ pub struct Plan {
 }
 
 // The first phase: hints cleared, at most those of two operands.
-#[derive(Drop)]
+#[derive(Clone, Copy)]
 pub struct Hints {
     pub first: Operation,
     pub second: Operation,

@@ -2,6 +2,8 @@
 // alone, and their version. Each call only converts, and calls the core's own. None asks anything of its numbers. What
 // it returns is document 01's number of the refusal, 0 for a call that is taken; a refused call leaves the head and the
 // lent slices unchanged. `argcol.h` beside src/ declares them for C: a slice is a pointer and a length there.
+#![tactic(auto)]
+
 mod convert;
 
 ghost use Rattle.std.specs.Prelude.{◌≡◌};
@@ -19,7 +21,7 @@ const VERSION: u32 = 1;
 
 // The values of a closing's answer, which a host lends. Kind is 1 for none, 2 for over, 3 for granted; the others are 0
 // unless it is granted.
-#[derive(Drop)]
+#[derive(Clone, Copy)]
 pub struct Values {
     pub kind: u32,
     pub entries: u32,
@@ -28,7 +30,7 @@ pub struct Values {
 }
 
 // What a closing leaves beside the lent slices.
-#[derive(Drop)]
+#[derive(Clone, Copy)]
 pub struct Ended {
     pub head: Head,
     pub number: u32,

@@ -1,5 +1,7 @@
 // What a step will do, decided once: each phase and arm answers a plan, and writes nothing. analyze/specs has what each
 // says.
+#![tactic(auto)]
+
 mod by_opcode;
 mod hinting;
 mod lengths;

@@ -1,6 +1,8 @@
 // The head lent by `&mut`: "the head (records used, decoder active) goes along with every call". Each thin function
 // takes the struct apart, calls the by-value core, and stores the fields of the core's head. Above the step and the
 // closing stands one function with plain parameters (`by_value.rt`), by which programs go through them.
+#![tactic(auto)]
+
 mod by_value;
 
 ghost use Rattle.facts.specs.Fresh.{number_of as freshNumber, count_of};

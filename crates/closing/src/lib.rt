@@ -1,5 +1,7 @@
 // The closing: refused by one of the questions 1, 2, 3, 9 and 8, in this order, with everything left unchanged; or
 // none, over, or granted with its list.
+#![tactic(auto)]
+
 mod answer;
 mod arrive;
 mod words;
@@ -10,14 +12,14 @@ use limits::Refusal;
 use word::U256;
 
 // "an optional packed word".
-#[derive(Drop)]
+#[derive(Clone, Copy)]
 pub enum Packed {
     Absent,
     Word(U256),
 }
 
 // "granted with entry count, budget left and head length".
-#[derive(Drop)]
+#[derive(Clone, Copy)]
 pub struct Granted {
     pub entries: u32,
     pub left: u32,
@@ -25,7 +27,7 @@ pub struct Granted {
 }
 
 // The question that was answered with no, or what is said of the list. Nothing is the paper's "none".
-#[derive(Drop)]
+#[derive(Clone, Copy)]
 pub enum Closing {
     Refused(Refusal),
     Nothing,
@@ -34,14 +36,14 @@ pub enum Closing {
 }
 
 // What a closing leaves beside the lent slices.
-#[derive(Drop)]
+#[derive(Clone, Copy)]
 pub struct Closed {
     pub head: Head,
     pub answer: Closing,
 }
 
 // How many of the root's children are dynamic, two standing for more, and the first of them.
-#[derive(Drop)]
+#[derive(Clone, Copy)]
 pub struct Dynamics {
     pub count: u32,
     pub first: u32,

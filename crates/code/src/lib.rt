@@ -1,5 +1,7 @@
 // What the step and the closing read in the code. A place past the end of the code holds no byte: nothing is read
 // there, and no sum of places wraps, since a pc is at most 2^32 - 1.
+#![tactic(auto)]
+
 mod bytes;
 mod dense;
 mod guard;
@@ -12,28 +14,28 @@ pub use guard::{guard_failure_pc, is_division_check, is_empty_revert_guard};
 pub use length::direct_min_calldata_words;
 
 // A place of the code, or none.
-#[derive(Drop)]
+#[derive(Clone, Copy)]
 pub enum Place {
     At(usize),
     Nowhere,
 }
 
 // A jump whose target is pushed just before it: where it leads, and the place behind it.
-#[derive(Drop)]
+#[derive(Clone, Copy)]
 pub enum Jump {
     To { target: u32, next: usize },
     Absent,
 }
 
 // The least length of call data, in bytes, that the code lets pass, or no reading of it.
-#[derive(Drop)]
+#[derive(Clone, Copy)]
 pub enum MinSize {
     Length(u32),
     Unread,
 }
 
 // The same in words of arguments, or none.
-#[derive(Drop)]
+#[derive(Clone, Copy)]
 pub enum Words {
     Count(u32),
     Nothing,

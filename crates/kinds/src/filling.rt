@@ -13,7 +13,7 @@ use limits::WORD_BYTES;
 use paths::{find_at, get_or_create_after, place};
 
 // How many paths a word lacks, 0 or 1, and the last child of the root up to the word's key, 0 for none.
-#[derive(Drop)]
+#[derive(Clone, Copy)]
 struct Looked {
     absent: u32,
     last: u32,

@@ -1,5 +1,7 @@
 // Kinds and counts of the facts, and the closing's fill of the head. specs/ has each operation over the state that a
 // table stands for.
+#![tactic(auto)]
+
 mod dynamic;
 mod filling;
 mod info;

@@ -1,5 +1,7 @@
 // Labels, and the slots, entries and steps that hold them, from and to numbers. Nothing here knows what a path leads
 // to.
+#![tactic(auto)]
+
 mod check;
 mod operands;
 mod read;
@@ -18,7 +20,7 @@ use word::U256;
 pub use write::{put_label, put_small};
 
 // A label's mask, the Rust's `and_mask`.
-#[derive(Drop)]
+#[derive(Clone, Copy)]
 pub enum Mask {
     Unmasked,
     Masked(U256),
@@ -26,7 +28,7 @@ pub enum Mask {
 
 // What an argument's label says: the argument at an offset below a path, with a constant added and a mask applied. A
 // path is a record's number.
-#[derive(Drop)]
+#[derive(Clone, Copy)]
 pub struct Val {
     pub offset: u32,
     pub path: u32,
@@ -35,7 +37,7 @@ pub struct Val {
 }
 
 // "A label is none, call data, argument, or zero test of an argument".
-#[derive(Drop)]
+#[derive(Clone, Copy)]
 pub enum Label {
     Unlabelled,
     CallData,
@@ -44,14 +46,14 @@ pub enum Label {
 }
 
 // A word with its label: a stack slot or an operand.
-#[derive(Drop)]
+#[derive(Clone, Copy)]
 pub struct Element {
     pub word: U256,
     pub label: Label,
 }
 
 // What the machine hands over with a step. The load label is `Unlabelled` where the load flag is 0.
-#[derive(Drop)]
+#[derive(Clone, Copy)]
 pub struct Step {
     pub op: u8,
     pub pc: u32,
@@ -62,7 +64,7 @@ pub struct Step {
 }
 
 // An operand that is an argument, with its own word, and the other operand: the Rust's `match_first_two!`.
-#[derive(Drop)]
+#[derive(Clone, Copy)]
 pub enum Choice {
     Chosen(Val, U256, Element),
     Neither,
@@ -70,7 +72,7 @@ pub enum Choice {
 
 // Which labels of an argument an arm's pattern takes: any, those with `offset: 0, add_val: 0`, those with `and_mask:
 // None`.
-#[derive(Drop)]
+#[derive(Clone, Copy)]
 pub enum Pattern {
     Any,
     Length,

@@ -1,8 +1,7 @@
 // What each kind of vector calls, and how its answer is written.
 use crate::vector::{CODE, code_length, first_word, flag, kind, number, second_word};
 use code::{Place, Words};
-use libc::STDOUT_FILENO;
-use vectors::{put, put_number};
+use vectors::{STDOUT_FILENO, put, put_number};
 use word::{Kept, Multiplier, U256};
 
 fn put_bool(b: bool) {

@@ -2,12 +2,13 @@
 // vector is 192 bytes: name (40), kind, code length, flag, name length, number (4), word (32), second word (32), code
 // (80); numbers and words are highest byte first. tools/leaf_vectors.py makes them, and the answers from a model of its
 // own.
+#![tactic(auto)]
+
 mod answer;
 mod vector;
 
 use answer::answer;
-use libc::STDIN_FILENO;
-use vectors::{put, put_name};
+use vectors::{STDIN_FILENO, put, put_name};
 
 // One vector; false at the end of the input.
 fn run_one() -> bool {

@@ -1,5 +1,7 @@
 // The numbers of document 01, each named once for the code; specs/ has the same names for the definitions. A number
 // joins this list with the first function that needs it.
+#![tactic(auto)]
+
 pub mod codes;
 pub mod confidences;
 pub mod fields;

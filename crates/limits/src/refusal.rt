@@ -6,7 +6,7 @@ ghost use Rattle.limits.specs.Refusal.{number_of};
 pub const TAKEN: u32 = 0;
 
 // The questions in the order of their numbers, each by what a "no" says.
-#[derive(Drop)]
+#[derive(Clone, Copy)]
 pub enum Refusal {
     NoRecords,
     Unsound,

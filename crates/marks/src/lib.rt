@@ -1,5 +1,7 @@
 // Names, not-bool marks and range hints of the facts, under the Rust's names. specs/ has each operation over the state
 // that a table stands for.
+#![tactic(auto)]
+
 mod hint;
 mod name;
 mod walk;

@@ -1,4 +1,6 @@
 // The type that a mask names, by mask AND mask plus one over four limbs.
+#![tactic(auto)]
+
 ghost use Rattle.std.specs.Prelude.{◌≡◌, ◌≤◌};
 ghost use Rattle.word.specs.Value.{value_of};
 ghost use Rattle.mask.specs.Mask.{low_bytes, leading_bytes, and_mask_to_type};

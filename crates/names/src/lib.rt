@@ -1,4 +1,6 @@
 // Names: which numbers are codes of types with no type inside.
+#![tactic(auto)]
+
 ghost use Rattle.std.specs.Prelude.{◌≡◌};
 ghost use Rattle.names.specs.Elementary.{is_bits, is_name};
 

@@ -1,4 +1,6 @@
 // Opcodes by name, and one decision each over an opcode for the questions that document 01 asks of it.
+#![tactic(auto)]
+
 mod decide;
 
 pub use decide::{clears_operands, ends_decoder, needs_slot, push_size};

@@ -6,9 +6,8 @@ ghost use Rattle.paths.specs.Shape.{Shaped};
 use crate::perform::perform;
 use crate::report::{put_records, show, tell};
 use facts::Records;
-use libc::STDIN_FILENO;
 use limits::RECORD_WIDTH;
-use vectors::put;
+use vectors::{STDIN_FILENO, put};
 
 // The next operation, at most the ones of standard input; answers how many records are used then.
 fn run_next(table: &mut [u32], n: u32, used: u32) -> u32

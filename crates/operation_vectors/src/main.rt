@@ -4,6 +4,8 @@
 // zero, how many records its table has and how many operations follow; each of them is an entry of the operation's
 // number (ops.rt) and its arguments. tools/operation_vectors.py makes the lists, and the answers from a model of its
 // own.
+#![tactic(auto)]
+
 mod ask;
 mod change;
 mod entry;
@@ -13,9 +15,9 @@ mod perform;
 mod report;
 
 use entry::argument;
-use libc::STDIN_FILENO;
 use limits::input::TRACE_NUMBERS;
 use list::run_part;
+use vectors::STDIN_FILENO;
 
 // One list; false at the end of the input.
 fn run_one() -> bool {

@@ -1,5 +1,7 @@
 // What a step does to the facts, as data: the operations of the Rust's `ArgsResult`, under its names. A step is a short
 // list of them; specs/Run.antt has what each does.
+#![tactic(auto)]
+
 mod room;
 mod running;
 
@@ -7,7 +9,7 @@ pub use room::has_room;
 pub use running::{make_dynamic, run};
 
 // A path is a record's number and the key at its end, as the Rust's `path` and `offset`.
-#[derive(Drop)]
+#[derive(Clone, Copy)]
 pub enum Operation {
     Nothing,
     // path, offset, and whether new range names are blocked too
@@ -27,7 +29,7 @@ pub enum Operation {
 
 // The path that an operation makes, if it is not there: the record that it continues, 0 where none is made, and its
 // last key.
-#[derive(Drop)]
+#[derive(Clone, Copy)]
 pub struct FullPath {
     pub path: u32,
     pub offset: u32,

@@ -14,7 +14,7 @@ use facts::{field, set_field};
 use limits::fields::{CHILD, KEY, NEXT, PARENT};
 
 // A place in a chain: behind prev, 0 for the first, and at next, 0 for the last.
-#[derive(Drop)]
+#[derive(Clone, Copy)]
 pub struct Spot {
     pub prev: u32,
     pub next: u32,

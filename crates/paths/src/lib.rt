@@ -1,4 +1,6 @@
 // The paths of a table: looked up, made, and made seen. specs/ has what that does to the state that a table stands for.
+#![tactic(auto)]
+
 mod depth;
 mod find;
 mod insert;
@@ -15,14 +17,14 @@ pub use node::store;
 pub use seen::make_seen;
 
 // How many records are used after a call, and the number of one.
-#[derive(Drop)]
+#[derive(Clone, Copy)]
 pub struct Reached {
     pub used: u32,
     pub number: u32,
 }
 
 // A child, 0 for none, and the lowest key of one that is nearer.
-#[derive(Drop)]
+#[derive(Clone, Copy)]
 pub struct Nearest {
     pub child: u32,
     pub low: u32,

@@ -3,9 +3,9 @@ ghost use Rattle.std.specs.Prelude.{◌≤◌, length};
 ghost use Rattle.limits.specs.Limits.{codes_max};
 ghost use Rattle.trace.specs.Lines.{list_room};
 
+use crate::STDOUT_FILENO;
 use closing::Packed;
 use head::Head;
-use libc::STDOUT_FILENO;
 use limits::TYPES_ROOM;
 use report::close_into;
 use trace::{LINE_ROOM, LIST_ROOM, put_refused};

@@ -2,31 +2,31 @@
 // trace printer reads the one, the replay of many traces the other, by the same code from here on.
 ghost use Rattle.std.specs.Prelude.{◌<◌};
 
-use libc::STDIN_FILENO;
+use crate::STDIN_FILENO;
 
 // `left` bytes of the trace are to come: `zeros` zeros, then `given` bytes as they stand, then further runs. A run is
 // how many zeros, how many bytes (a byte each), and these bytes.
-#[derive(Drop)]
+#[derive(Clone, Copy)]
 pub struct Runs {
     pub left: u32,
     pub zeros: u32,
     pub given: u32,
 }
 
-#[derive(Drop)]
+#[derive(Clone, Copy)]
 pub enum Source {
     Plain,
     Short(Runs),
 }
 
 // What was read: is it all that was asked for?
-#[derive(Drop)]
+#[derive(Clone, Copy)]
 pub struct Fetched {
     pub source: Source,
     pub whole: bool,
 }
 
-#[derive(Drop)]
+#[derive(Clone, Copy)]
 struct Next {
     byte: u8,
     runs: Runs,

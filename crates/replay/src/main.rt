@@ -5,8 +5,9 @@
 // these bytes in runs, as many as it takes: how
 // many zeros, how many other bytes (a byte each), and these. tools/replay.py makes the traces, and the lines from a
 // model of its own.
-use libc::{STDIN_FILENO, STDOUT_FILENO};
-use printing::{Runs, Source, print_trace, skip};
+#![tactic(auto)]
+
+use printing::{Runs, STDIN_FILENO, STDOUT_FILENO, Source, print_trace, skip};
 
 fn put(text: &[u8]) {
     io::write_all(STDOUT_FILENO, text);

@@ -1,4 +1,6 @@
 // What is printed of a closing, on slices: `refused N at 0`, `none`, `over` or the list.
+#![tactic(auto)]
+
 ghost use Rattle.std.specs.Prelude.{◌≤◌, length};
 ghost use Rattle.limits.specs.Limits.{codes_max};
 ghost use Rattle.trace.specs.Lines.{list_room};
@@ -15,7 +17,7 @@ use spell::put_bytes;
 use trace::{put_list, put_refused};
 
 // What a closing that is printed leaves beside the lent slices: the head, and how many bytes were stored.
-#[derive(Drop)]
+#[derive(Clone, Copy)]
 pub struct ClosedInto {
     pub head: Head,
     pub length: usize,

@@ -1,4 +1,6 @@
 // The text of a name, and a number in decimal, stored in a slice. Nothing here knows of arrays or tuples.
+#![tactic(auto)]
+
 ghost use Rattle.std.specs.Prelude.{◌≡◌, true, ◌++◌, ◌+◌, ◌≤◌, length};
 ghost use Rattle.names.specs.Decimal.{decimal};
 ghost use Rattle.names.specs.Elementary.{is_name, of_code};

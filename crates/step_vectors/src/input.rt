@@ -2,8 +2,7 @@
 ghost use Rattle.std.specs.Prelude.{◌≤◌, length};
 
 use head::Head;
-use libc::STDIN_FILENO;
-use vectors::wide;
+use vectors::{STDIN_FILENO, wide};
 
 pub fn read_number() -> u32 {
     let mut b = [0u8; 4];

@@ -16,15 +16,16 @@
 // length, from where on its bytes are given, how many, and these; the others are zero. A list is its length and its
 // pairs; the others are zero.
 // tools/step_vectors.py makes the traces, and the lines from a model of its own.
+#![tactic(auto)]
+
 mod input;
 mod report;
 mod run;
 
 use input::read_number;
-use libc::STDIN_FILENO;
 use report::put_count;
 use run::run_trace;
-use vectors::put;
+use vectors::{STDIN_FILENO, put};
 
 // Numbers of one record more than the largest table, so that a table can be too long.
 const TABLE_ROOM: usize = 180235;

@@ -2,12 +2,13 @@
 // or `refused 2`. A vector is 576 bytes: name (40), name length, how many numbers, two zeros, used (4), and 132 numbers
 // of 32 bits, of which the first ones are the table; numbers are highest byte first. tools/table_vectors.py makes them,
 // and the answers from a model of its own.
+#![tactic(auto)]
+
 mod vector;
 
 use facts::Records;
-use libc::STDIN_FILENO;
 use vector::{count, read_table, used};
-use vectors::put;
+use vectors::{STDIN_FILENO, put};
 
 fn put_name(v: &[u8], length: u8) {
     let n = vectors::wide(length) as usize;

@@ -1,4 +1,6 @@
 // The text call: the canonical text of a list of types, from its codes.
+#![tactic(auto)]
+
 mod call;
 mod count;
 mod write;
@@ -7,7 +9,7 @@ pub use call::{number_of, text};
 use limits::Refusal;
 
 // What the text call answers.
-#[derive(Drop)]
+#[derive(Clone, Copy)]
 pub enum TextAnswer {
     // The text's length; the text stands at the start of the slice.
     Written(usize),
@@ -17,28 +19,28 @@ pub enum TextAnswer {
 
 // The codes counted so far, from the left: how many types are still wanted, and how long the text is, each entry with a
 // comma before it.
-#[derive(Drop)]
+#[derive(Clone, Copy)]
 pub struct Tally {
     pub wanted: usize,
     pub length: usize,
 }
 
 // The tally with one code more; Unknown where the number is no code.
-#[derive(Drop)]
+#[derive(Clone, Copy)]
 pub enum Tallied {
     Code(Tally),
     Unknown,
 }
 
 // The length of a list's text, or that the codes are not those of types.
-#[derive(Drop)]
+#[derive(Clone, Copy)]
 pub enum Measure {
     Length(usize),
     NotTypes,
 }
 
 // How far the text is written: how many arrays and tuples are open, and where the next byte goes.
-#[derive(Drop)]
+#[derive(Clone, Copy)]
 pub struct Progress {
     pub depth: usize,
     pub to: usize,

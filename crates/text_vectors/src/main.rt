@@ -3,13 +3,14 @@
 // runs of the block, zero, how often the block is repeated (2), slice length (2), and up to 36 runs of two numbers of
 // 16 bits: how often, and which code; the first runs are the block. Numbers are highest byte first.
 // tools/text_vectors.py makes them, and the answers from a model of its own.
+#![tactic(auto)]
+
 mod report;
 mod vector;
 
-use libc::STDIN_FILENO;
 use report::{fill, report};
 use vector::{expand, room};
-use vectors::{put, put_name};
+use vectors::{STDIN_FILENO, put, put_name};
 
 fn run_vector(v: &[u8; 192], codes: &mut [u16], out: &mut [u8]) {
     let n = expand(v, codes);

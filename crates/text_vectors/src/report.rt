@@ -1,8 +1,7 @@
 // One line's end for an answer.
-use libc::STDOUT_FILENO;
 use limits::number_of;
 use text::TextAnswer;
-use vectors::{put, put_number};
+use vectors::{STDOUT_FILENO, put, put_number};
 
 // A sum over bytes and places, to tell long texts apart.
 fn sum(out: &[u8]) -> u64 {

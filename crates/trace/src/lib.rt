@@ -1,5 +1,7 @@
 // What the trace printer reads and writes, on slices: numbers from bytes, the sizes of the input, one entry of a list
 // of codes, and the lines. Nothing here knows of facts or steps, and nothing reads or writes a file.
+#![tactic(auto)]
+
 mod entry;
 mod fits;
 mod group;
@@ -15,7 +17,7 @@ pub use listing::{LIST_ROOM, put_entries, put_list};
 pub use numbers::{number_at, read_numbers};
 
 // How many bytes follow the front of a group, or that its counts are over the sizes.
-#[derive(Drop)]
+#[derive(Clone, Copy)]
 pub enum GroupRest {
     Bytes(usize),
     Over,

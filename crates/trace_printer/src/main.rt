@@ -1,5 +1,7 @@
 // The trace printer: reads a trace from standard input, takes its steps and its closing, and writes the list, or why
 // there is none.
+#![tactic(auto)]
+
 use printing::{Source, print_trace};
 
 fn main() {

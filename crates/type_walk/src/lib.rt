@@ -1,5 +1,7 @@
 // The type walk: `to_alloy_type`, which writes the codes of the list to a slice. It calls itself for each child, and
 // walks a chain once beside the words.
+#![tactic(auto)]
+
 mod ahead;
 mod leaves;
 mod write;
@@ -7,7 +9,7 @@ mod write;
 pub use write::write_words;
 
 // How the codes of a fact's type are written: one or two codes ahead, 0 for none, and then those of some of its words.
-#[derive(Drop)]
+#[derive(Clone, Copy)]
 pub struct Plan {
     pub first: u32,
     pub second: u32,
@@ -17,7 +19,7 @@ pub struct Plan {
 
 // What is left of a fact's codes behind those ahead: so many of its words from one on, and the index at which they
 // begin.
-#[derive(Drop)]
+#[derive(Clone, Copy)]
 pub struct Rest {
     pub start: u32,
     pub words: u32,
@@ -25,7 +27,7 @@ pub struct Rest {
 }
 
 // A run of words that are done: how many, and the index behind their codes.
-#[derive(Drop)]
+#[derive(Clone, Copy)]
 pub struct Run {
     pub done: u32,
     pub to: usize,

@@ -1,4 +1,6 @@
 // Type codes: what each number says. The trees that they stand for, and their text, are in specs/.
+#![tactic(auto)]
+
 ghost use Rattle.std.specs.Prelude.{◌≡◌};
 ghost use Rattle.types.specs.Kind.{kind_of};
 
@@ -6,7 +8,7 @@ use limits::codes::{ARRAY, TUPLE};
 use names::is_name;
 
 // A number at the place of a type.
-#[derive(Drop)]
+#[derive(Clone, Copy)]
 pub enum CodeKind {
     Name,
     Array,

@@ -1,8 +1,13 @@
 // What the programs that run vectors share: a vector is 192 bytes, its name stands in the first 40, and an answer is
 // written behind it.
+#![tactic(auto)]
+
 ghost use Rattle.std.specs.Prelude.{◌≤◌, ◌<◌};
 
-use libc::STDOUT_FILENO;
+// The numbers of standard input and output, which `io` reads and writes by.
+pub const STDIN_FILENO: i32 = 0;
+
+pub const STDOUT_FILENO: i32 = 1;
 
 pub fn wide(b: u8) -> u32
     ensures { result < 256 }

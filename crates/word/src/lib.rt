@@ -1,4 +1,6 @@
 // 256-bit words as four u64 limbs, by value. Nothing here knows of labels, facts or opcodes.
+#![tactic(auto)]
+
 pub mod bits;
 pub mod compare;
 pub mod multiply;
@@ -8,7 +10,7 @@ pub mod range;
 pub mod sum;
 
 // Limb i has the weight 2^(64 i).
-#[derive(Drop)]
+#[derive(Clone, Copy)]
 pub struct U256 {
     pub l3: u64,
     pub l2: u64,
@@ -31,14 +33,14 @@ pub const ONE: U256 = U256 {
 };
 
 // What is left of a number that is "kept if below 2^32".
-#[derive(Drop)]
+#[derive(Clone, Copy)]
 pub enum Kept {
     Number(u32),
     TooLarge,
 }
 
 // What a multiplier of a length says: an array mark counts the words of an element.
-#[derive(Drop)]
+#[derive(Clone, Copy)]
 pub enum Multiplier {
     One,
     Two,

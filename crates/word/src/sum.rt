@@ -19,7 +19,7 @@ pub fn from_u32(n: u32) -> U256
 }
 
 // A limb of a sum, and the carry out of it.
-#[derive(Drop)]
+#[derive(Clone, Copy)]
 struct Limb {
     limb: u64,
     carry: u64,

@@ -1,4 +1,6 @@
 // Zeros: are numbers of a slice all zero?
+#![tactic(auto)]
+
 ghost use Rattle.std.specs.Prelude.{◌≡◌, ◌+◌, ◌≤◌, length};
 ghost use Rattle.zeros.specs.Zeros.{zeros};
 
