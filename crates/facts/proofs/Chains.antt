@@ -22,6 +22,7 @@ pub record Rest (t : List ℕ) (u p b c : ℕ) (ms : List ℕ) : Type 0 where
   pub all : (r : ℕ) → Kid t u p r → b ≤ key_of t r → In r ms
 
 pub rising_low : (t : List ℕ) (b : ℕ) (ms : List ℕ) (r : ℕ) → Rising t b ms → In r ms → b ≤ key_of t r
+rising_low t b [] r h x'' = elim x'' [ ]
 rising_low t b (m ∷ ms) r h (inl e) = rw e h.0
 rising_low t b (m ∷ ms) r h (inr i) = let g = rising_low t (key_of t m + 1) ms r h.1 i in let g0 = h.0 in omega arith
 
@@ -51,10 +52,12 @@ rest_first t u p b c (m ∷ ms) R =
     }
 
 rest_next : (t : List ℕ) (u p b c : ℕ) (ms : List ℕ) (r : ℕ) → Rest t u p b c ms → In r ms → First t u p (key_of t r + 1) (next_of t r)
+rest_next t u p b c [] r R x'' = elim x'' [ ]
 rest_next t u p b c (m ∷ ms) r R (inl e) = rw e (rest_first t u p (key_of t m + 1) (next_of t m) ms (rest_tail t u p b c m ms R))
 rest_next t u p b c (m ∷ ms) r R (inr i) = rest_next t u p (key_of t m + 1) (next_of t m) ms r (rest_tail t u p b c m ms R) i
 
 rising_same : (t : List ℕ) (b : ℕ) (ms : List ℕ) (r s : ℕ) → Rising t b ms → In r ms → In s ms → key_of t r ≡ key_of t s → r ≡ s
+rising_same t b [] r s h x4 _ k = elim x4 [ ]
 rising_same t b (m ∷ ms) r s h (inl e) (inl q) k = e ∙ sym q
 rising_same t b (m ∷ ms) r s h (inl e) (inr j) k =
     let g = rising_low t (key_of t m + 1) ms s h.1 j in let a = ap (λ (x : ℕ). key_of t x) e in absurd (omega arith)
@@ -122,6 +125,7 @@ record Built (t : List ℕ) (u p b c : ℕ) : Type 0 where
 
 -- what stands in a chain is met on a walk of it
 pub in_seg : (t : List ℕ) (c : ℕ) (ms : List ℕ) (d r : ℕ) → Seg t c ms d → In r ms → (ns : List ℕ) × Seg t c ns r
+in_seg t c [] d r s x'' = elim x'' [ ]
 in_seg t c (m ∷ ms) d r s (inl e) = ([], s.0 ∙ sym e)
 in_seg t c (m ∷ ms) d r s (inr i) = let g = in_seg t (next_of t m) ms d r s.2 i in (m ∷ g.0, (s.0, s.1, g.1))
 

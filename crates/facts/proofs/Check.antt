@@ -99,6 +99,7 @@ in_append x (y ∷ l) m (inl e) = inl (inl e)
 in_append x (y ∷ l) m (inr i) = ⊎_elim (λ (j : In x l). inl (inr j)) (λ (j : In x m). inr j) (in_append x l m i)
 
 in_left : (x : ℕ) (l m : List ℕ) → In x l → In x (l ++ m)
+in_left x [] m x'' = elim x'' [ ]
 in_left x (y ∷ l) m (inl e) = inl e
 in_left x (y ∷ l) m (inr i) = inr (in_left x l m i)
 

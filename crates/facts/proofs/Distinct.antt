@@ -28,6 +28,7 @@ record Without (x : ℕ) (m : List ℕ) : Type 0 where
 
 without : (x : ℕ) (m : List ℕ) → In x m → Without x m
 unfolding total
+without x [] x'' = elim x'' [ ]
 without x (y ∷ ys) (inl e) = record {
   rest = ys;
   one = refl;

@@ -91,6 +91,7 @@ head_is t c (m ∷ ms) s = s.0
 
 after_is : (t : List ℕ) (c r : ℕ) (ms : List ℕ) → Seg t c ms 0 → In r ms → next_of t r ≡ after r ms
 unfolding after
+after_is t c r [] s i = elim i [ ]
 after_is t c r (m ∷ ms) s i = go (eqb m r) refl (λ j. after_is t (next_of t m) r ms s.2 j) i
   where
     go : (b : Bool) → eqb m r ≡ b → (In r ms → next_of t r ≡ after r ms) → In r (m ∷ ms) → next_of t r ≡ cond b (head_or ms) (after r ms)

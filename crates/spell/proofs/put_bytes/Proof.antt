@@ -10,11 +10,11 @@ use Rattle.spell.proofs.Stores.{left_less, left_none}
 use Rattle.spell.proofs.put_bytes.Statement.{statement}
 use Rattle.spell.proofs.put_bytes.Tie as tie
 
-abbrev invariant_loop : tie.invariant_loop
+abbrev invariant_loop : tie.invariant-loop-i
 invariant_loop out₀ to s i₀ out i =
     (i ≤ length s) × (length out ≡ length out₀) × (sets out (to + i) (drop i s) ≡ sets out₀ to s)
 
-abbrev decreases_loop : tie.decreases_loop
+abbrev decreases_loop : tie.decreases-loop-i
 decreases_loop out₀ to s i₀ out i = length s - i
 
 pub put_bytes_spec : {M : Type 1} → statement M

@@ -5,10 +5,10 @@ use Rattle.zeros.proofs.Joined.{Joined, joined_none, joined_more, joined_all}
 use Rattle.zeros.proofs.are_zero.Statement.{statement}
 use Rattle.zeros.proofs.are_zero.Tie as tie
 
-abbrev invariant_loop : tie.invariant_loop
+abbrev invariant_loop : tie.invariant-loop-i
 invariant_loop s at n any₀ i₀ any i = Joined s at n i any
 
-abbrev decreases_loop : tie.decreases_loop
+abbrev decreases_loop : tie.decreases-loop-i
 decreases_loop s at n any₀ i₀ any i = n - i
 
 pub are_zero_spec : {M : Type 1} → statement M
@@ -23,5 +23,5 @@ are_zero_spec =
     (λ c. search rules)
     (λ c. search rules)
     (λ c. search rules)
-    (λ c. let t = c.before in joined_more _ _ _ _ _ t.before.loop.invariant t.loop-test.true)
-    (λ c. joined_all _ _ _ _ _ c.before.loop.invariant c.loop-test.false))
+    (λ c. let t = c.before in joined_more _ _ _ _ _ t.before.loop-i.invariant t.loop-i-test.true)
+    (λ c. joined_all _ _ _ _ _ c.before.loop-i.invariant c.loop-i-test.false))

@@ -8,45 +8,45 @@ use Rattle.code.proofs.Digits.{Read, read_none, shifted_fits, added_fits, read_m
 use Rattle.code.proofs.bytes.number_at.Statement.{statement}
 use Rattle.code.proofs.bytes.number_at.Tie as tie
 
-abbrev invariant_loop : tie.invariant_loop
+abbrev invariant_loop : tie.invariant-loop-i
 invariant_loop code at n number₀ i₀ number i = Read code at n number i
 
-abbrev decreases_loop : tie.decreases_loop
+abbrev decreases_loop : tie.decreases-loop-i
 decreases_loop code at n number₀ i₀ number i = n - i
 
-loop_holds : tie.Need-loop-init invariant_loop decreases_loop
+loop_holds : tie.Need-loop-i-init invariant_loop decreases_loop
 loop_holds c = read_none _ _ _
 
-mul_number : tie.Need-overflow-mul-number invariant_loop decreases_loop
+mul_number : tie.Need-overflow_mul-number invariant_loop decreases_loop
 mul_number c = search (shifted_fits, rules)
 
-add_number : tie.Need-overflow-add-number invariant_loop decreases_loop
+add_number : tie.Need-overflow_add-number invariant_loop decreases_loop
 add_number c = search rules
 
-shared_slice_read_number : tie.Need-shared-slice-read-number invariant_loop decreases_loop
+shared_slice_read_number : tie.Need-bounds-code-at invariant_loop decreases_loop
 shared_slice_read_number c = search rules
 
-byte : (c : tie.After-shared-slice-known invariant_loop decreases_loop) → get_or c.before.before.before.args.code.now (c.before.before.before.args.at + c.before.before.loop.i) 0 < 256
-byte c = omega (arith, c.shared-slice-known.given (c.before.before.before.args.at + c.before.before.loop.i))
+byte : (c : tie.After-shared_slice_known-1 invariant_loop decreases_loop) → get_or c.before.before.before.args.code.now (c.before.before.before.args.at + c.before.before.loop-i.i) 0 < 256
+byte c = omega (arith, c.shared_slice_known-1.given (c.before.before.before.args.at + c.before.before.loop-i.i))
 
-cast_number : tie.Need-overflow-cast-number invariant_loop decreases_loop
+cast_number : tie.Need-overflow_cast-number invariant_loop decreases_loop
 cast_number c = let h = byte c in omega arith
 
 add_number_2 : tie.Need-overflow-add-number-2 invariant_loop decreases_loop
 add_number_2 c =
     let l = c.before.before in
-    added_fits _ _ _ _ _ l.before.requires.1 c.before.loop-test.true l.loop.invariant _ (byte c)
+    added_fits _ _ _ _ _ l.before.requires.1 c.before.loop-i-test.true l.loop-i.invariant _ (byte c)
 
-add_i : tie.Need-overflow-add-i invariant_loop decreases_loop
+add_i : tie.Need-overflow_add-i invariant_loop decreases_loop
 add_i c = search rules
 
-loop_less : tie.Need-loop-smaller invariant_loop decreases_loop
+loop_less : tie.Need-loop-i-smaller invariant_loop decreases_loop
 loop_less c = search rules
 
-loop_again : tie.Need-loop-preserved invariant_loop decreases_loop
+loop_again : tie.Need-loop-i-preserved invariant_loop decreases_loop
 loop_again c =
     let l = c.before.before in
-    read_more _ _ _ _ _ l.before.requires.1 c.before.loop-test.true l.loop.invariant _ (byte c) refl
+    read_more _ _ _ _ _ l.before.requires.1 c.before.loop-i-test.true l.loop-i.invariant _ (byte c) refl
 
 returns : tie.Need-returns invariant_loop decreases_loop
 returns c = search (read_all, rules)

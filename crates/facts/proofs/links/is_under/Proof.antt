@@ -4,26 +4,26 @@ use borrow.Author.Rules.{rules}
 use Rattle.facts.proofs.links.is_under.Statement.{statement}
 use Rattle.facts.proofs.links.is_under.Tie as tie
 
-returns_3 : tie.Need-returns-3
+returns_3 : tie.Need-returns-then-field
 returns_3 c U =
     let g = c.before in
-    let p = g.before.before.before.before.field.ensures in
-    let a = rw p at g.before.field2.ensures in
-    let b = g.field3.ensures in
+    let p = g.before.before.before.before.field-p.ensures in
+    let a = rw p at g.before.field-p.ensures in
+    let b = g.field-2.ensures in
     let s = U.seen in
-    let t = c.if3.true in
+    let t = c.if-field.true in
     omega arith
 
-returns_4 : tie.Need-returns-4
+returns_4 : tie.Need-returns-then-p-lt1
 returns_4 c =
     let g = c.before in
     let e2 = g.before.before in
-    let p = e2.before.before.field.ensures in
-    let a = rw p at g.before.field2.ensures in
-    let b = g.field3.ensures in
-    let t = c.if3.false in
-    let x = e2.if2.false in
-    let y = e2.before.if1.false in
+    let p = e2.before.before.field-p.ensures in
+    let a = rw p at g.before.field-p.ensures in
+    let b = g.field-2.ensures in
+    let t = c.if-field.false in
+    let x = e2.if-r-p.false in
+    let y = e2.before.if-p-lt1.false in
     record { from = omega arith; above = omega arith; seen = omega arith }
 
 pub is_under_spec : {M : Type 1} → statement M

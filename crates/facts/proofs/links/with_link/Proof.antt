@@ -5,31 +5,31 @@ use Rattle.facts.proofs.Weights.{lead_none, lead_far, lead_other, lead_low, lead
 use Rattle.facts.proofs.links.with_link.Statement.{statement}
 use Rattle.facts.proofs.links.with_link.Tie as tie
 
-returns : tie.Need-returns
-returns c = lead_none _ _ _ _ _ _ c.if1.true
+returns : tie.Need-returns-then-c-eq0
+returns c = lead_none _ _ _ _ _ _ c.if-c-eq0.true
 
-returns_2 : tie.Need-returns-2
-returns_2 c = lead_far _ _ _ _ _ c.before.if1.false c.if2.true
+returns_2 : tie.Need-returns-then-used-c
+returns_2 c = lead_far _ _ _ _ _ c.before.if-c-eq0.false c.if-used-c.true
 
-returns_3 : tie.Need-returns-3
+returns_3 : tie.Need-returns-then-field-p
 returns_3 c =
     let f = c.before in
-    lead_other _ _ _ _ _ f.before.before.if1.false _ f.field.ensures c.if3.true
+    lead_other _ _ _ _ _ f.before.before.if-c-eq0.false _ f.field.ensures c.if-field-p.true
 
-returns_4 : tie.Need-returns-4
+returns_4 : tie.Need-returns-then-weight-before
 returns_4 c =
     let w = c.before in
-    lead_low _ _ _ _ _ w.before.before.before.before.if1.false _ w.weight-of.ensures.0 (let h = c.if4.true in omega arith)
+    lead_low _ _ _ _ _ w.before.before.before.before.if-c-eq0.false _ w.weight_of-weight.ensures.0 (let h = c.if-weight-before.true in omega arith)
 
 add_t10 : tie.Need-overflow-add-t10
-add_t10 c = let w = c.before.weight-of.ensures.1 in omega arith
+add_t10 c = let w = c.before.weight_of-weight.ensures.1 in omega arith
 
-returns_5 : tie.Need-returns-5
+returns_5 : tie.Need-returns-then-c-eq0
 returns_5 c =
     let w = c.before in
     let e = w.before in
-    let f = e.before in
-    lead_some _ _ _ _ _ _ f.before.before.if1.false f.before.if2.false _ f.field.ensures e.if3.false _ w.weight-of.ensures.0 w.weight-of.ensures.1 c.if4.false
+    let f = e.args.before in
+    lead_some _ _ _ _ _ _ f.before.before.if-c-eq0.false f.before.if-used-c.false _ f.field.ensures e.if-field-p.false _ w.weight_of-weight.ensures.0 w.weight_of-weight.ensures.1 c.if-weight-before.false
 
 pub with_link_spec : {M : Type 1} → statement M
 with_link_spec = tie.close (tie.spec returns returns_2 (λ c κs. search rules) returns_3 (λ c κs. search rules) returns_4 add_t10 returns_5)

@@ -9,45 +9,45 @@ use Rattle.facts.proofs.Zeros.{Zeroed, zeroed_none, zeroed_more, zero_not, zero_
 use Rattle.facts.proofs.sound.is_zero_from.Statement.{statement}
 use Rattle.facts.proofs.sound.is_zero_from.Tie as tie
 
-abbrev invariant_loop : tie.invariant_loop
+abbrev invariant_loop : tie.invariant-loop-at
 invariant_loop table start first at₀ at = Zeroed table start at
 
-abbrev decreases_loop : tie.decreases_loop
+abbrev decreases_loop : tie.decreases-loop-at
 decreases_loop table start first at₀ at = length table - at
 
-returns : tie.Need-returns invariant_loop decreases_loop
+returns : tie.Need-returns-then-not-are_zero invariant_loop decreases_loop
 returns c =
-    let r = c.before.are-zero in
+    let r = c.before.are_zero in
     let n = c.before.before in
     let s = n.before.before in
-    zero_not s.args.table.now _ _ _ r.result (omega arith) (let l = n.before-line.ensures in let w = s.requires in omega arith)
-    r.ensures (not-true r.result c.if1.true)
+    zero_not s.args.table.now _ _ _ r.result (omega arith) (let l = n.before_line-first.ensures in let w = s.requires in omega arith)
+    r.ensures (not-true r.result c.if-not-are_zero.true)
 
-loop_holds : tie.Need-loop-init invariant_loop decreases_loop
+loop_holds : tie.Need-loop-at-init invariant_loop decreases_loop
 loop_holds c =
-    let r = c.before.are-zero in
+    let r = c.before.are_zero in
     let n = c.before.before in
     let w = n.before.before.requires in
-    zeroed_more _ _ _ _ (zeroed_none _ _ w) (let l = n.before-line.ensures in omega arith) (sym r.ensures ∙ not-false r.result c.if1.false)
+    zeroed_more _ _ _ _ (zeroed_none _ _ w) (let l = n.before_line-first.ensures in omega arith) (sym r.ensures ∙ not-false r.result c.if-not-are_zero.false)
 
-returns_2 : tie.Need-returns-2 invariant_loop decreases_loop
+returns_2 : tie.Need-returns-then-not-are_zero-2 invariant_loop decreases_loop
 returns_2 c =
-    let r = c.before.are-zero2 in
+    let r = c.before.are_zero-in-loop-at in
     let i = c.before.before in
     let s = i.before.before.before.before.before.before in
-    let v = i.before.loop.invariant in
-    zero_not s.args.table.now _ _ _ r.result v.low (let h = v.high in let l = i.loop-test.true in omega arith)
-    r.ensures (not-true r.result c.if2.true)
+    let v = i.before.loop-at.invariant in
+    zero_not s.args.table.now _ _ _ r.result v.low (let h = v.high in let l = i.loop-at-test.true in omega arith)
+    r.ensures (not-true r.result c.if-not-are_zero-2.true)
 
-loop_again : tie.Need-loop-preserved invariant_loop decreases_loop
+loop_again : tie.Need-loop-at-preserved invariant_loop decreases_loop
 loop_again c =
-    let r = c.before.are-zero2 in
+    let r = c.before.are_zero-in-loop-at in
     let i = c.before.before in
-    let v = i.before.loop.invariant in
-    zeroed_more _ _ _ _ v (let h = v.high in let l = i.loop-test.true in omega arith) (sym r.ensures ∙ not-false r.result c.if2.false)
+    let v = i.before.loop-at.invariant in
+    zeroed_more _ _ _ _ v (let h = v.high in let l = i.loop-at-test.true in omega arith) (sym r.ensures ∙ not-false r.result c.if-not-are_zero-2.false)
 
-returns_3 : tie.Need-returns-3 invariant_loop decreases_loop
-returns_3 c = let e = c.before.before in zero_rest _ _ _ c.are-zero3.result e.loop.invariant c.are-zero3.ensures
+returns_3 : tie.Need-returns-then-not-are_zero invariant_loop decreases_loop
+returns_3 c = let e = c.before.before in zero_rest _ _ _ c.are_zero-2.result e.loop-at.invariant c.are_zero-2.ensures
 
 pub is_zero_from_spec : {M : Type 1} → statement M
 is_zero_from_spec =

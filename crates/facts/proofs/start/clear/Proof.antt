@@ -6,10 +6,10 @@ use Rattle.facts.proofs.Zeros.{Cleared, cleared_none, cleared_more, cleared_all}
 use Rattle.facts.proofs.start.clear.Statement.{statement}
 use Rattle.facts.proofs.start.clear.Tie as tie
 
-abbrev invariant_loop : tie.invariant_loop
+abbrev invariant_loop : tie.invariant-loop-i
 invariant_loop table₀ i₀ table i = Cleared table₀ table i
 
-abbrev decreases_loop : tie.decreases_loop
+abbrev decreases_loop : tie.decreases-loop-i
 decreases_loop table₀ i₀ table i = length table₀ - i
 
 pub clear_spec : {M : Type 1} → statement M

@@ -7,28 +7,28 @@ use Rattle.facts.proofs.Lone.{fresh_is}
 use Rattle.facts.proofs.start.fresh.Statement.{statement}
 use Rattle.facts.proofs.start.fresh.Tie as tie
 
-returns : tie.Need-returns
-returns c = (answered _ _ _ c.before.before.record-count.ensures c.enum_told.given.1, refl)
+returns : tie.Need-returns-in_default
+returns c = (answered _ _ _ c.before.record_count-count.ensures c.enum_told-1.given.1, refl)
 
-set_field_requires : tie.Need-set-field-requires
+set_field_requires : tie.Need-set_field-requires
 set_field_requires c κs =
     let cleared = c.before.before.before in
     let known = cleared.before.before.before in
-    let count = known.before.before.record-count in
-    let m = count_counted _ _ (sym (answer_is _ _ count.ensures) ∙ known.count.given.1) in
+    let count = known.record_count-count in
+    let m = count_counted _ _ (sym (answer_is _ _ count.ensures) ∙ known.count-1.given.1) in
     let k = cleared.clear.auto.0 in
     record { from = omega arith; within = omega (arith, m.is, m.some); field = omega arith }
 
-returns_2 : tie.Need-returns-2
+returns_2 : tie.Need-returns-in_default
 returns_2 c =
     let stored = c.before.before in
-    let cleared = stored.before.before.before.before in
+    let cleared = stored.before in
     let known = cleared.before.before.before in
-    let count = known.before.before.record-count in
-    let e = known.count.given.1 in (
+    let count = known.before.before.record_count-count in
+    let e = known.count-1.given.1 in (
       answered _ _ _ count.ensures e,
       fresh_is _ _ _ _ (count_counted _ _ (sym (answer_is _ _ count.ensures) ∙ e)) cleared.clear.ensures
-          stored.set-field.ensures,
+          stored.set_field.ensures,
     )
 
 pub fresh_spec : {M : Type 1} → statement M

@@ -10,17 +10,17 @@ use Rattle.labels.proofs.Tests.{Passed, passed_none, passed_more, stopped, all_p
 use Rattle.labels.proofs.check.are_entries.Statement.{statement}
 use Rattle.labels.proofs.check.are_entries.Tie as tie
 
-abbrev invariant_loop : tie.invariant_loop
+abbrev invariant_loop : tie.invariant-loop-i
 invariant_loop s used n i₀ i = Passed (λ (j : ℕ). is_entry used s (j * entry_width)) (length s / entry_width) i
 
-abbrev decreases_loop : tie.decreases_loop
+abbrev decreases_loop : tie.decreases-loop-i
 decreases_loop s used n i₀ i = (length s / entry_width) - i
 
-returns : tie.Need-returns invariant_loop decreases_loop
-returns c = stopped _ _ _ c.before.before.loop-test.true (sym c.before.is-entry.ensures ∙ not-true _ c.if1.true)
+returns : tie.Need-returns-then-not-is_entry invariant_loop decreases_loop
+returns c = stopped _ _ _ c.before.before.loop-i-test.true (sym c.before.is_entry.ensures ∙ not-true _ c.if-not-is_entry.true)
 
-loop_again : tie.Need-loop-preserved invariant_loop decreases_loop
-loop_again c = passed_more _ _ _ c.before.before.before.loop.invariant c.before.before.loop-test.true (sym c.before.is-entry.ensures ∙ not-false _ c.if1.false)
+loop_again : tie.Need-loop-i-preserved invariant_loop decreases_loop
+loop_again c = passed_more _ _ _ c.before.before.before.loop-i.invariant c.before.before.loop-i-test.true (sym c.before.is_entry.ensures ∙ not-false _ c.if-not-is_entry.false)
 
 pub are_entries_spec : {M : Type 1} → statement M
 are_entries_spec =

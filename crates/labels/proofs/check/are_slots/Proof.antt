@@ -10,17 +10,17 @@ use Rattle.labels.proofs.Tests.{Passed, passed_none, passed_more, stopped, all_p
 use Rattle.labels.proofs.check.are_slots.Statement.{statement}
 use Rattle.labels.proofs.check.are_slots.Tie as tie
 
-abbrev invariant_loop : tie.invariant_loop
+abbrev invariant_loop : tie.invariant-loop-i
 invariant_loop s used n i₀ i = Passed (λ (j : ℕ). is_label used s (j * slot_width + slot_label)) (length s / slot_width) i
 
-abbrev decreases_loop : tie.decreases_loop
+abbrev decreases_loop : tie.decreases-loop-i
 decreases_loop s used n i₀ i = (length s / slot_width) - i
 
-returns : tie.Need-returns invariant_loop decreases_loop
-returns c = stopped _ _ _ c.before.before.loop-test.true (sym c.before.is-label.ensures ∙ not-true _ c.if1.true)
+returns : tie.Need-returns-then-not-is_label invariant_loop decreases_loop
+returns c = stopped _ _ _ c.before.before.loop-i-test.true (sym c.before.is_label.ensures ∙ not-true _ c.if-not-is_label.true)
 
-loop_again : tie.Need-loop-preserved invariant_loop decreases_loop
-loop_again c = passed_more _ _ _ c.before.before.before.loop.invariant c.before.before.loop-test.true (sym c.before.is-label.ensures ∙ not-false _ c.if1.false)
+loop_again : tie.Need-loop-i-preserved invariant_loop decreases_loop
+loop_again c = passed_more _ _ _ c.before.before.before.loop-i.invariant c.before.before.loop-i-test.true (sym c.before.is_label.ensures ∙ not-false _ c.if-not-is_label.false)
 
 pub are_slots_spec : {M : Type 1} → statement M
 are_slots_spec =

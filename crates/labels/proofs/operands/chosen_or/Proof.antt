@@ -5,17 +5,17 @@ use Rattle.labels.proofs.Choosing.{other_kind, chosen, not_chosen}
 use Rattle.labels.proofs.operands.chosen_or.Statement.{statement}
 use Rattle.labels.proofs.operands.chosen_or.Tie as tie
 
-returns : tie.Need-returns
-returns c = other_kind _ c.before.args.e _ _ c.match.keys2
+returns : tie.Need-returns-in_default
+returns c = other_kind _ c.before.args.e _ _ c.in-Arg.keys2
 
-returns_2 : tie.Need-returns-2
+returns_2 : tie.Need-returns-then-passes
 returns_2 c =
-    chosen _ _ _ _ _ c.before.before.before.before.label.given.1
-    (sym c.before.before.passes.ensures ∙ c.before.if1.true)
+    chosen _ _ _ _ _ c.before.before.before.before.label-1.given.1
+    (sym c.before.before.passes.ensures ∙ c.before.if-passes.true)
 
-returns_3 : tie.Need-returns-3
+returns_3 : tie.Need-returns-in_default
 returns_3 c =
-    not_chosen _ _ _ _ _ c.before.before.before.label.given.1 (sym c.before.passes.ensures ∙ c.if1.false)
+    not_chosen _ _ _ _ _ c.before.before.before.label-1.given.1 (sym c.before.passes.ensures ∙ c.if-passes.false)
 
 pub chosen_or_spec : {M : Type 1} → statement M
 chosen_or_spec =

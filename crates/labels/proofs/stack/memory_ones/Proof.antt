@@ -8,10 +8,10 @@ use Rattle.labels.specs.Stack.{entry_one}
 use Rattle.labels.proofs.stack.memory_ones.Tie as tie
 use Rattle.labels.proofs.stack.memory_ones.Statement.{statement}
 
-abbrev invariant_loop : tie.invariant_loop
+abbrev invariant_loop : tie.invariant-loop-i
 invariant_loop memory₀ path n i₀ memory i = Changed (entry_one path) memory₀ (length memory₀ / entry_width) i memory
 
-abbrev decreases_loop : tie.decreases_loop
+abbrev decreases_loop : tie.decreases-loop-i
 decreases_loop memory₀ path n i₀ memory i = (length memory₀ / entry_width) - i
 
 pub memory_ones_spec : {M : Type 1} → statement M

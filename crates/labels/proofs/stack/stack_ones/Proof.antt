@@ -8,10 +8,10 @@ use Rattle.limits.specs.Layout.{slot_width}
 use Rattle.labels.proofs.stack.stack_ones.Statement.{statement}
 use Rattle.labels.proofs.stack.stack_ones.Tie as tie
 
-abbrev invariant_loop : tie.invariant_loop
+abbrev invariant_loop : tie.invariant-loop-i
 invariant_loop stack₀ path n i₀ stack i = Changed (slot_one path) stack₀ (length stack₀ / slot_width) i stack
 
-abbrev decreases_loop : tie.decreases_loop
+abbrev decreases_loop : tie.decreases-loop-i
 decreases_loop stack₀ path n i₀ stack i = (length stack₀ / slot_width) - i
 
 pub stack_ones_spec : {M : Type 1} → statement M

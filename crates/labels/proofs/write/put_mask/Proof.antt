@@ -6,17 +6,17 @@ use Rattle.labels.proofs.Writings.{unmasked_written, masked_written, still_fits}
 use Rattle.labels.proofs.write.put_mask.Tie as tie
 use Rattle.labels.proofs.write.put_mask.Statement.{statement}
 
-same_length : tie.Need-same-length
+same_length : tie.Need-shape_of-s-in-Unmasked
 same_length c = ap length c.before.before.put_small.ensures ∙ simp length-set
 
-returns : tie.Need-returns
-returns c = unmasked_written _ _ _ _ c.before.before.before.before.enum_told.given.1 c.before.before.put_small.ensures
+returns : tie.Need-returns-in-Unmasked
+returns c = unmasked_written _ _ _ _ c.before.before.before.before.enum_told-1.given.1 c.before.before.put_small.ensures
 
-same_length_2 : tie.Need-same-length-2
-same_length_2 c = ap length c.before.before.put-numbers.ensures ∙ simp length-set
+same_length_2 : tie.Need-shape_of-s-in-Masked
+same_length_2 c = ap length c.before.before.put_numbers.ensures ∙ simp length-set
 
-returns_2 : tie.Need-returns-2
-returns_2 c = masked_written _ _ _ _ _ c.before.before.before.before.before.mask.given.1 c.before.before.put-numbers.ensures
+returns_2 : tie.Need-returns-in-Masked
+returns_2 c = masked_written _ _ _ _ _ c.before.before.before.before.before.mask-1.given.1 c.before.before.put_numbers.ensures
 
 pub put_mask_spec : {M : Type 1} → statement M
 put_mask_spec =

@@ -24,6 +24,6 @@ clears_operands_spec =
     (λ c. search (at_first clears keys, rules))
     (λ c. search (at_stretch clears keys, rules))
     (λ c. search (at_stretch clears keys, rules))
-    (λ c. at_key clears keys _ _ c.match.keys1 tt)
+    (λ c. at_key clears keys _ _ c.in-4.is tt)
     (λ c. search (at_stretch clears keys, rules))
     (λ c. search (at_stretch clears keys, rules)))

@@ -28,7 +28,7 @@ ends_decoder_spec =
     (λ c. search (at_stretch ends keys, rules))
     (λ c. search (at_stretch ends keys, rules))
     (λ c. search (at_stretch ends keys, rules))
-    (λ c. at_key ends keys _ _ c.match.keys1 tt)
+    (λ c. at_key ends keys _ _ c.in-84.in-84-own.keys1 tt)
     (λ c. search (at_stretch ends keys, rules))
     (λ c. search (at_stretch ends keys, rules))
     (λ c. search (at_stretch ends keys, rules))

@@ -25,7 +25,7 @@ needs_slot_spec =
     (λ c. search (at_stretch needs_one keys, rules))
     (λ c. search (at_stretch needs_one keys, rules))
     (λ c. search (at_stretch needs_one keys, rules))
-    (λ c. at_key needs_one keys _ _ c.match.keys1 tt)
+    (λ c. at_key needs_one keys _ _ c.in-53.is tt)
     (λ c. search (at_stretch needs_one keys, rules))
     (λ c. search (at_stretch needs_one keys, rules))
     (λ c. search (at_stretch needs_one keys, rules)))
