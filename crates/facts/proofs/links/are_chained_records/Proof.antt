@@ -79,7 +79,7 @@ abbrev within : Next → Turn
 within c = turn (first (second c))
 
 under : (c : Else-not-is_under) → Under (T (turn c)) (R (turn c))
-under c = let r = c.before.is_under in rw (not-false r.result c.if-not-is_under.false) at r.ensures
+under c = let r = c.before.is_under in rw c.if-not-is_under.false at r.ensures
 
 -- what the links come to with the one to the first child, and then with the one to the next record
 down : (c : Child) → let i = turn (first c) in let w = c.before.down-1.given.0.0 in let l = i.before.loop-r.links in
@@ -101,7 +101,7 @@ weighed : (c : Next) → let i = within c in let w = c.before.before.before.befo
 weighed c = c.before.before.before.before.before.before.weight_of-own.ensures
 
 fact : (c : Else-not-is_record) → let i = within (third c) in is_record (node_at (T i) (R i)) ≡ true
-fact c = let r = c.before.is_record in sym r.ensures ∙ not-false r.result c.if-not-is_record.false
+fact c = let r = c.before.is_record in sym r.ensures ∙ c.if-not-is_record.false
 
 -- links and records of a table have room in a number
 room : (c : Child) → c.before.down-1.given.0.0 + weight_end ≤ 2 ^ 64
@@ -145,7 +145,7 @@ returns_2 c S =
     let r = c.before.is_under in
     let i = c.before.before in
     let l = i.before.loop-r.invariant.low in
-    (rw (not-true r.result c.if-not-is_under.true) at r.ensures) (chained_under _ _ S.0 S.1 (R i) (omega arith) i.loop-r-test.true)
+    (rw c.if-not-is_under.true at r.ensures) (chained_under _ _ S.0 S.1 (R i) (omega arith) i.loop-r-test.true)
 
 field_requires_2 : tie.Need-field-child-requires invariant_loop decreases_loop
 field_requires_2 c κs = has (turn c) 2 (omega arith)
@@ -203,7 +203,7 @@ returns_5 c S =
     let r = c.before.is_record in
     let i = within c.before.before in
     let l = i.before.loop-r.inv.low in
-    true≢false (sym (S.1.fact (R i) (omega arith) i.loop-r-test.taken) ∙ sym r.ensures ∙ not-true r.result c.if-not-is_record.true)
+    true≢false (sym (S.1.fact (R i) (omega arith) i.loop-r-test.taken) ∙ sym r.ensures ∙ c.if-not-is_record.true)
 
 add_records : tie.Need-overflow_add-records invariant_loop decreases_loop
 add_records c =
