@@ -38,12 +38,12 @@ abbrev U : Turn → ℕ
 U c = (st c).args.used
 
 abbrev R : Turn → ℕ
-R c = c.before.loop-r.r
+R c = c.loop-r.r
 
 there : (c : Turn) → HasRecord (T c) (R c)
 there c =
     let h = c.loop-r-test.true in
-    let l = c.before.loop-r.invariant.low in
+    let l = c.loop-r.invariant.low in
     let w = (st c).requires.1.0 in
     record { from = omega arith; within = omega arith }
 
@@ -67,10 +67,10 @@ abbrev turn : Else-not-is_under → Turn
 turn c = c.before.before
 
 abbrev first : Child → Else-not-is_under
-first c = c.before.before.before.before.before
+first c = c.before.before.before
 
 abbrev second : Next → Child
-second c = c.before.before.before.before.before.before.before
+second c = c.before.before.before.before.before
 
 abbrev third : Else-not-is_record → Next
 third c = c.before.before
@@ -79,38 +79,38 @@ abbrev within : Next → Turn
 within c = turn (first (second c))
 
 under : (c : Else-not-is_under) → Under (T (turn c)) (R (turn c))
-under c = let r = c.before.is_under in rw c.if-not-is_under.false at r.ensures
+under c = let r = c.is_under in rw c.if-not-is_under.false at r.ensures
 
 -- what the links come to with the one to the first child, and then with the one to the next record
-down : (c : Child) → let i = turn (first c) in let w = c.before.down-1.given.0.0 in let l = i.before.loop-r.links in
+down : (c : Child) → let i = turn (first c) in let w = c.in-Weight-with_link.down in let l = i.loop-r.links in
     Leads (T i) (U i) (R i) 0 (child_of (T i) (R i)) × (w ≡ l + link_to (T i) (child_of (T i) (R i))) × (w < l + weight_end)
-down c = let l = c.before.before.before in led _ _ _ _ _ _ _ _ _ _ l.with_link-in-loop-r.ensures refl refl l.before.field-child.ensures _ c.before.down-1.given.1
+down c = let l = c.before in led _ _ _ _ _ _ _ _ _ _ l.with_link-in-loop-r.ensures refl refl l.field-child.ensures _ c.in-Weight-with_link.is
 
 own : (c : tie.After-weight_of-own invariant_loop decreases_loop) → let i = turn (first c.before) in c.weight_of-own.result ≡ weight (T i) (R i)
 own c = c.weight_of-own.ensures.0
 
-on : (c : Next) → let i = within c in let w = c.before.on-1.given.0.0 in let l = (second c).before.down-1.given.0.0 in
+on : (c : Next) → let i = within c in let w = c.in-Weight-with_link-2.on in let l = (second c).in-Weight-with_link.down in
     Leads (T i) (U i) (parent_of (T i) (R i)) (weight (T i) (R i)) (next_of (T i) (R i)) × (w ≡ l + onward (T i) (R i)) × (w < l + weight_end)
 on c =
-    let l = c.before.before.before in
+    let l = c.before in
     let f = l.before.before in
-    led _ _ _ _ _ _ _ _ _ _ l.with_link-in-loop-r-2.ensures f.field-p.ensures (own f.before) l.before.field-next.ensures _ c.before.on-1.given.1
+    led _ _ _ _ _ _ _ _ _ _ l.with_link-in-loop-r-2.ensures f.field-p.ensures (own f.before) l.field-next.ensures _ c.in-Weight-with_link-2.is
 
 -- what the record itself weighs
-weighed : (c : Next) → let i = within c in let w = c.before.before.before.before.before.before.weight_of-own.result in (w ≡ weight (T i) (R i)) × (w < weight_end)
-weighed c = c.before.before.before.before.before.before.weight_of-own.ensures
+weighed : (c : Next) → let i = within c in let w = c.weight_of-own.result in (w ≡ weight (T i) (R i)) × (w < weight_end)
+weighed c = c.weight_of-own.ensures
 
 fact : (c : Else-not-is_record) → let i = within (third c) in is_record (node_at (T i) (R i)) ≡ true
-fact c = let r = c.before.is_record in sym r.ensures ∙ c.if-not-is_record.false
+fact c = let r = c.is_record in sym r.ensures ∙ c.if-not-is_record.false
 
 -- links and records of a table have room in a number
-room : (c : Child) → c.before.down-1.given.0.0 + weight_end ≤ 2 ^ 64
+room : (c : Child) → c.in-Weight-with_link.down + weight_end ≤ 2 ^ 64
 room c =
     let i = turn (first c) in
     let a = (down c).2 in
-    let h = i.before.loop-r.inv.links_end in
-    let l = i.loop-r-test.taken in
-    let m = (st i).pre.0.1 in
+    let h = i.loop-r.invariant.links_end in
+    let l = i.loop-r-test.true in
+    let m = (st i).requires.0.1 in
     omega arith
 
 field_requires : tie.Need-field-requires invariant_loop decreases_loop
@@ -127,24 +127,24 @@ enum_told c = search rules
 
 returns : tie.Need-returns-in_default invariant_loop decreases_loop
 returns c S =
-    let l = c.before.before in
-    let s = l.before.before in
-    not_led _ _ _ _ _ _ _ _ _ _ l.with_link.ensures refl refl l.before.field.ensures c.enum_told-1.given.1 (chained_child _ _ S.0 1 (omega arith) s.requires.0.0)
+    let l = c.before in
+    let s = l.before.before.before in
+    not_led _ _ _ _ _ _ _ _ _ _ l.with_link.ensures refl refl l.field.ensures c.in_default.is (chained_child _ _ S.0 1 (omega arith) s.requires.0.0)
 
 loop_holds : tie.Need-loop-r-init invariant_loop decreases_loop
 loop_holds c =
-    let l = c.before.before.before in
-    let w = led _ _ _ _ _ _ _ _ _ _ l.with_link.ensures refl refl l.before.field.ensures _ c.before.first-1.given.1 in
-    added_start _ _ _ l.before.before.before.requires.0.0 w.0 w.1 w.2
+    let l = c.before in
+    let w = led _ _ _ _ _ _ _ _ _ _ l.with_link.ensures refl refl l.field.ensures _ c.in-Weight.is in
+    added_start _ _ _ l.requires.0.0 w.0 w.1 w.2
 
 is_under_requires : tie.Need-is_under-requires invariant_loop decreases_loop
 is_under_requires c κs = there c
 
 returns_2 : tie.Need-returns-then-not-is_under invariant_loop decreases_loop
 returns_2 c S =
-    let r = c.before.is_under in
+    let r = c.is_under in
     let i = c.before.before in
-    let l = i.before.loop-r.invariant.low in
+    let l = i.loop-r.invariant.low in
     (rw c.if-not-is_under.true at r.ensures) (chained_under _ _ S.0 S.1 (R i) (omega arith) i.loop-r-test.true)
 
 field_requires_2 : tie.Need-field-child-requires invariant_loop decreases_loop
@@ -153,7 +153,7 @@ field_requires_2 c κs = has (turn c) 2 (omega arith)
 with_link_requires_2 : tie.Need-with_link-requires-in-loop-r invariant_loop decreases_loop
 with_link_requires_2 c κs =
     let i = turn c.before in
-    ((st i).pre.1.0, let h = i.before.loop-r.inv.links_end in let l = i.loop-r-test.taken in let m = (st i).pre.0.1 in omega arith)
+    ((st i).requires.1.0, let h = i.loop-r.invariant.links_end in let l = i.loop-r-test.true in let m = (st i).requires.0.1 in omega arith)
 
 enum_known_down : tie.Need-enum_known-down invariant_loop decreases_loop
 enum_known_down c = search rules
@@ -163,10 +163,10 @@ enum_told_2 c = search rules
 
 returns_3 : tie.Need-returns-in_default-with_link invariant_loop decreases_loop
 returns_3 c S =
-    let l = c.before.before in
+    let l = c.before in
     let i = turn l.before.before in
-    not_led _ _ _ _ _ _ _ _ _ _ l.with_link-in-loop-r.ensures refl refl l.before.field-child.ensures c.enum_told-in_default-with_link-1.given.1
-    (chained_child _ _ S.0 (R i) (there i).from i.loop-r-test.taken)
+    not_led _ _ _ _ _ _ _ _ _ _ l.with_link-in-loop-r.ensures refl refl l.field-child.ensures c.in_default-with_link.is
+    (chained_child _ _ S.0 (R i) (there i).from i.loop-r-test.true)
 
 weight_of_requires : tie.Need-weight_of-own-requires invariant_loop decreases_loop
 weight_of_requires c κs = there (turn (first c))
@@ -178,7 +178,7 @@ field_requires_4 : tie.Need-field-next-requires invariant_loop decreases_loop
 field_requires_4 c κs = has (turn (first c.before.before)) 3 (omega arith)
 
 with_link_requires_3 : tie.Need-with_link-requires-in-loop-r-2 invariant_loop decreases_loop
-with_link_requires_3 c κs = let d = c.before.before.before in ((st (turn (first d))).pre.1.0, room d)
+with_link_requires_3 c κs = let d = c.before.before.before in ((st (turn (first d))).requires.1.0, room d)
 
 enum_known_on : tie.Need-enum_known-on invariant_loop decreases_loop
 enum_known_on c = search rules
@@ -188,37 +188,37 @@ enum_told_3 c = search rules
 
 returns_4 : tie.Need-returns-in_default-with_link-2 invariant_loop decreases_loop
 returns_4 c S =
-    let l = c.before.before in
+    let l = c.before in
     let f = l.before.before in
     let i = turn (first f.before.before) in
-    let k = i.before.loop-r.inv.low in
-    not_led _ _ _ _ _ _ _ _ _ _ l.with_link-in-loop-r-2.ensures f.field-p.ensures (own f.before) l.before.field-next.ensures c.enum_told-in_default-with_link-2-1.given.1
-    (chained_next _ _ S.0 (R i) (omega arith) i.loop-r-test.taken)
+    let k = i.loop-r.invariant.low in
+    not_led _ _ _ _ _ _ _ _ _ _ l.with_link-in-loop-r-2.ensures f.field-p.ensures (own f.before) l.field-next.ensures c.in_default-with_link-2.is
+    (chained_next _ _ S.0 (R i) (omega arith) i.loop-r-test.true)
 
 is_record_requires : tie.Need-is_record-requires invariant_loop decreases_loop
 is_record_requires c κs = there (within c)
 
 returns_5 : tie.Need-returns-then-not-is_record invariant_loop decreases_loop
 returns_5 c S =
-    let r = c.before.is_record in
+    let r = c.is_record in
     let i = within c.before.before in
-    let l = i.before.loop-r.inv.low in
-    true≢false (sym (S.1.fact (R i) (omega arith) i.loop-r-test.taken) ∙ sym r.ensures ∙ c.if-not-is_record.true)
+    let l = i.loop-r.invariant.low in
+    true≢false (sym (S.1.fact (R i) (omega arith) i.loop-r-test.true) ∙ sym r.ensures ∙ c.if-not-is_record.true)
 
 add_records : tie.Need-overflow_add-records invariant_loop decreases_loop
 add_records c =
     let i = within (third c) in
     let w = (weighed (third c)).1 in
-    let h = i.before.loop-r.inv.records_end in
-    let l = i.loop-r-test.taken in
-    let m = (st i).pre.0.1 in
+    let h = i.loop-r.invariant.records_end in
+    let l = i.loop-r-test.true in
+    let m = (st i).requires.0.1 in
     omega arith
 
 add_r : tie.Need-overflow_add-r invariant_loop decreases_loop
-add_r c = let i = within (third c) in let l = i.loop-r-test.taken in let m = (st i).pre.0.1 in omega arith
+add_r c = let i = within (third c) in let l = i.loop-r-test.true in let m = (st i).requires.0.1 in omega arith
 
 loop_less : tie.Need-loop-r-smaller invariant_loop decreases_loop
-loop_less c = let l = (within (third c)).loop-r-test.taken in omega arith
+loop_less c = let l = (within (third c)).loop-r-test.true in omega arith
 
 loop_again : tie.Need-loop-r-preserved invariant_loop decreases_loop
 loop_again c =
@@ -234,12 +234,12 @@ loop_again c =
       next = y.0;
       light = let e = y.1 in let l = y.2 in omega arith;
     } in
-    added_more _ _ _ _ _ _ _ _ i.before.loop-r.inv i.loop-r-test.taken F x.1 x.2 y.1 o.0 o.1
+    added_more _ _ _ _ _ _ _ _ i.loop-r.invariant i.loop-r-test.true F x.1 x.2 y.1 o.0 o.1
 
-returns_6 : tie.Need-returns-in_default invariant_loop decreases_loop
+returns_6 : tie.Need-returns invariant_loop decreases_loop
 returns_6 c =
-    let s = c.before.before.before.before in
-    told _ _ _ _ s.requires.0.0 s.requires.0.1 s.requires.1.0 s.requires.1.1 _ c.before.loop-r.invariant c.loop-r-test.false
+    let s = c.before.before.before.before.before.before in
+    told _ _ _ _ s.requires.0.0 s.requires.0.1 s.requires.1.0 s.requires.1.1 _ c.loop-r.invariant c.loop-r-test.false
 
 pub are_chained_records_spec : {M : Type 1} → statement M
 are_chained_records_spec =
