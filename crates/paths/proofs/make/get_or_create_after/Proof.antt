@@ -6,9 +6,7 @@ use Rattle.paths.proofs.make.get_or_create_after.Tie as tie
 
 returns : tie.Need-returns
 returns c =
-    let seen = c.before.before in
-    let made = seen.before.before.before.before in
-    created _ _ _ _ _ _ _ _ _ made.ensure-after.ensures seen.make-seen.ensures
+    created _ _ _ _ _ _ _ _ _ c.ensure_after-made.ensures c.make_seen.ensures
 
 pub get_or_create_after_spec : {M : Type 1} → statement M
 get_or_create_after_spec = tie.close (tie.spec (λ c κs. search rules) (λ c κs. search rules) (λ c. search rules) returns)

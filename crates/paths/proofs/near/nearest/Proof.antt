@@ -4,10 +4,10 @@ use Rattle.paths.specs.Place.{Before}
 use Rattle.paths.proofs.near.nearest.Statement.{statement}
 use Rattle.paths.proofs.near.nearest.Tie as tie
 
-abbrev invariant_loop : tie.invariant_loop
+abbrev invariant_loop : tie.invariant-loop-r
 invariant_loop table used parent key prev near₀ r₀ near r = (Before table used parent key near.child × (near.low ≤ key)) × (r ≤ used)
 
-abbrev decreases_loop : tie.decreases_loop
+abbrev decreases_loop : tie.decreases-loop-r
 decreases_loop table used parent key prev near₀ r₀ near r = r
 
 pub nearest_spec : {M : Type 1} → statement M
@@ -16,9 +16,9 @@ nearest_spec =
     (tie.spec
     invariant_loop
     decreases_loop
-    (λ c. ((c.before.requires.1, omega arith), omega arith))
-    (λ c κs. let l = c.before in let s = l.before.before in (s.requires.0, ((c.loop-test.true, l.loop.invariant.1), l.loop.invariant.0)))
+    (λ c. ((c.requires.1, omega arith), omega arith))
+    (λ c κs. (c.requires.0, ((c.loop-r-test.true, c.loop-r.invariant.1), c.loop-r.invariant.0)))
     (λ c. search rules)
     (λ c. search rules)
-    (λ c. (c.nearer.ensures, let h = c.before.before.loop.invariant.1 in omega arith))
-    (λ c. c.before.loop.invariant.0.0))
+    (λ c. (c.nearer-near.ensures, let h = c.loop-r.invariant.1 in omega arith))
+    (λ c. c.loop-r.invariant.0.0))

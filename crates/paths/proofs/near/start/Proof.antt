@@ -7,43 +7,39 @@ use Rattle.paths.proofs.Spotting.{before_none, spotting_start}
 use Rattle.paths.proofs.near.start.Statement.{statement}
 use Rattle.paths.proofs.near.start.Tie as tie
 
-abbrev invariant_loop : tie.invariant_loop
+abbrev invariant_loop : tie.invariant-loop-passed
 invariant_loop table used parent key few prev₀ passed₀ ahead₀ prev passed ahead = Before table used parent key prev × (passed ≤ few) × (ahead ≤ passed)
 
-abbrev decreases_loop : tie.decreases_loop
+abbrev decreases_loop : tie.decreases-loop-passed
 decreases_loop table used parent key few prev₀ passed₀ ahead₀ prev passed ahead = few - passed
 
 abbrev Found : Type 0
-Found = tie.After-behind invariant_loop decreases_loop
+Found = tie.After-behind-next invariant_loop decreases_loop
 
 abbrev st : Found → tie.Start invariant_loop decreases_loop
 st b = b.before.before.before.before.before
 
 -- the one behind is a child too, unless there is none
-kid : (e : tie.Else2 invariant_loop decreases_loop) → let b = e.before in let s = st b in Kid s.args.table.now s.args.used s.args.parent b.behind.result
+kid : (e : tie.Else-next-eq0 invariant_loop decreases_loop) → let b = e.before in let s = st b in Kid s.args.table.now s.args.used s.args.parent b.behind-next.result
 kid e =
     let b = e.before in
     let s = st b in
-    let q = b.behind.ensures in
-    (spotting_start _ _ _ _ s.pre.0 s.pre.1.0 s.pre.1.1 _ _ b.before.before.loop.invariant.0 q.0 q.1).at.first.kid e.if2.false
+    let q = b.behind-next.ensures in
+    (spotting_start _ _ _ _ s.requires.0 s.requires.1.0 s.requires.1.1 _ _ b.before.before.loop-passed.invariant.0 q.0 q.1).at.first.kid e.if-next-eq0.false
 
-behind_requires : tie.Need-behind-requires invariant_loop decreases_loop
-behind_requires c κs = let l = c.before in let s = l.before.before.before in (s.requires.0, (s.requires.1, l.loop.invariant.0.kid))
+behind_requires : tie.Need-behind-next-requires invariant_loop decreases_loop
+behind_requires c κs = (c.requires.0, (c.requires.1, c.loop-passed.invariant.0.kid))
 
 field_requires : tie.Need-field-requires invariant_loop decreases_loop
-field_requires c κs = kid_has _ _ _ _ 0 (st c.before).pre.0 (kid c) (omega arith)
+field_requires c κs = kid_has _ _ _ _ 0 (st c.before).requires.0 (kid c) (omega arith)
 
-loop_again : tie.Need-loop-preserved invariant_loop decreases_loop
+loop_again : tie.Need-loop-passed-preserved invariant_loop decreases_loop
 loop_again c =
-    let a = c.before in
-    let g = a.before in
-    let f = g.before in
-    let e = f.before in
-    let i = e.before.before in
-    let t = i.loop-test.true in
-    let v = i.before.loop.invariant.2 in
-    let j = a.ahead-with.ensures in
-    (record { kid = λ _. kid e; below = λ _. let q = f.field.ensures in let l = g.if3.false in omega arith }, omega arith, omega arith)
+    let e = c.before.before.before.before in
+    let t = e.loop-passed-test.true in
+    let v = e.loop-passed.invariant.2 in
+    let j = c.ahead_with-ahead.ensures in
+    (record { kid = λ _. kid e; below = λ _. let q = c.field.ensures in let l = c.if-key-field.false in omega arith }, omega arith, omega arith)
 
 pub start_spec : {M : Type 1} → statement M
 start_spec =
@@ -63,5 +59,5 @@ start_spec =
     (λ c. search rules)
     (λ c. search rules)
     loop_again
-    (λ c κs. let l = c.before in (l.before.before.before.requires.0, l.loop.invariant.0))
+    (λ c κs. (c.requires.0, c.loop-passed.invariant.0))
     (λ c. search rules))
