@@ -1,36 +1,31 @@
 -- `head::admit::records_of` meets its contract.
-use mathlib.Core.Path.{sym, ◌∙◌}
+use mathlib.Core.Path.{sym, ap, ◌∙◌}
+use mathlib.Core.Bool.{not}
 use borrow.Author.Rules.{rules}
 use Rattle.facts.proofs.Counts.{answer_is, count_counted}
 use Rattle.head.proofs.Admitting.{no_records, high_active, not_sound, admitted}
 use Rattle.head.proofs.admit.records_of.Statement.{statement}
 use Rattle.head.proofs.admit.records_of.Tie as tie
 
-returns : tie.Need-returns
-returns c = no_records _ _ _ (answer_is _ _ c.before.before.record-count.ensures) c.enum_told.given.1
+returns : tie.Need-returns-in_default
+returns c = no_records _ _ _ (answer_is _ _ c.record_count-records.ensures) c.in_default.is
 
-returns_2 : tie.Need-returns-2
-returns_2 c =
-    let k = c.before.before.before in let r = k.before.before.record-count in
-    high_active _ _ _ (answer_is _ _ r.ensures) _ k.records.given.1 c.if1.true
+returns_2 : tie.Need-returns-then-head-gt1
+returns_2 c = high_active _ _ _ (answer_is _ _ c.record_count-records.ensures) _ c.in-Count.is c.if-head-gt1.true
 
-is_sound_requires : tie.Need-is-sound-requires
-is_sound_requires c κs =
-    let k = c.before.before.before in let r = k.before.before.record-count in
-    count_counted _ _ (sym (answer_is _ _ r.ensures) ∙ k.records.given.1)
+is_sound_requires : tie.Need-is_sound-requires
+is_sound_requires c κs = count_counted _ _ (sym (answer_is _ _ c.record_count-records.ensures) ∙ c.in-Count.is)
 
-returns_3 : tie.Need-returns-3
+returns_3 : tie.Need-returns-then-not-is_sound
 returns_3 c =
-    let f = c.before in
-    let k = f.before.before.before.before in let r = k.before.before.record-count in
-    not_sound _ _ _ (answer_is _ _ r.ensures) _ k.records.given.1 f.is-sound.result f.is-sound.ensures c.if2.true
+    not_sound _ _ _ (answer_is _ _ c.record_count-records.ensures) _ c.in-Count.is c.is_sound.result c.is_sound.ensures
+    (ap not c.if-not-is_sound.true)
 
-returns_4 : tie.Need-returns-4
+returns_4 : tie.Need-returns
 returns_4 c =
-    let f = c.before in let e1 = f.before in
-    let k = e1.before.before.before in let r = k.before.before.record-count in
-    admitted _ _ _ (answer_is _ _ r.ensures) _ k.records.given.1 f.is-sound.result f.is-sound.ensures c.if2.false
-    e1.if1.false
+    admitted _ _ _ (answer_is _ _ c.record_count-records.ensures) _ c.in-Count.is c.is_sound.result c.is_sound.ensures
+    (ap not c.if-not-is_sound.false)
+    c.if-head-gt1.false
 
 pub records_of_spec : {M : Type 1} → statement M
 records_of_spec =

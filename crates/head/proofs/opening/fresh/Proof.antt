@@ -5,16 +5,15 @@ use Rattle.head.proofs.Outcomes.{taken_so, unfit_so}
 use Rattle.head.proofs.opening.fresh.Statement.{statement}
 use Rattle.head.proofs.opening.fresh.Tie as tie
 
-returns : tie.Need-returns
+returns : tie.Need-returns-in_default
 returns c =
-    let f = c.before.before.before.before.fresh in
-    unfit_so _ _ _ _ (answer_is _ _ f.ensures.0) f.ensures.1 c.enum_told.given.1
+    let f = c.fresh-records in
+    unfit_so _ _ _ _ (answer_is _ _ f.ensures.0) f.ensures.1 c.in_default.is
 
-returns_2 : tie.Need-returns-2
+returns_2 : tie.Need-returns
 returns_2 c =
-    let r = c.before in
-    let f = r.before.before.before.before.fresh in
-    taken_so _ _ _ _ (answer_is _ _ f.ensures.0) f.ensures.1 _ r.records.given.1
+    let f = c.fresh-records in
+    taken_so _ _ _ _ (answer_is _ _ f.ensures.0) f.ensures.1 _ c.in-Count.is
 
 pub fresh_spec : {M : Type 1} → statement M
 fresh_spec =

@@ -2,7 +2,6 @@
 use lib.ListN.{length}
 use mathlib.Core.Path.{sym, ◌∙◌}
 use Prim.Native.Nat.{ℕ, ◌-◌, ◌*◌, ◌/◌}
-use borrow.Author.Tests.{not-true, not-false}
 use borrow.Author.Rules.{rules}
 use Rattle.limits.specs.Layout.{entry_width}
 use Rattle.labels.specs.Formed.{is_entry}
@@ -17,10 +16,10 @@ abbrev decreases_loop : tie.decreases-loop-i
 decreases_loop s used n i₀ i = (length s / entry_width) - i
 
 returns : tie.Need-returns-then-not-is_entry invariant_loop decreases_loop
-returns c = stopped _ _ _ c.before.before.loop-i-test.true (sym c.before.is_entry.ensures ∙ not-true _ c.if-not-is_entry.true)
+returns c = stopped _ _ _ c.before.before.loop-i-test.true (sym c.before.is_entry.ensures ∙ c.if-not-is_entry.true)
 
 loop_again : tie.Need-loop-i-preserved invariant_loop decreases_loop
-loop_again c = passed_more _ _ _ c.before.before.before.loop-i.invariant c.before.before.loop-i-test.true (sym c.before.is_entry.ensures ∙ not-false _ c.if-not-is_entry.false)
+loop_again c = passed_more _ _ _ c.before.before.before.loop-i.invariant c.before.before.loop-i-test.true (sym c.before.is_entry.ensures ∙ c.if-not-is_entry.false)
 
 pub are_entries_spec : {M : Type 1} → statement M
 are_entries_spec =

@@ -2,7 +2,6 @@
 use lib.ListN.{length}
 use mathlib.Core.Path.{sym, ◌∙◌}
 use Prim.Native.Nat.{ℕ, ◌+◌, ◌-◌, ◌*◌, ◌/◌}
-use borrow.Author.Tests.{not-true, not-false}
 use borrow.Author.Rules.{rules}
 use Rattle.limits.specs.Layout.{slot_width, slot_label}
 use Rattle.labels.specs.Formed.{is_label}
@@ -17,10 +16,10 @@ abbrev decreases_loop : tie.decreases-loop-i
 decreases_loop s used n i₀ i = (length s / slot_width) - i
 
 returns : tie.Need-returns-then-not-is_label invariant_loop decreases_loop
-returns c = stopped _ _ _ c.before.before.loop-i-test.true (sym c.before.is_label.ensures ∙ not-true _ c.if-not-is_label.true)
+returns c = stopped _ _ _ c.before.before.loop-i-test.true (sym c.before.is_label.ensures ∙ c.if-not-is_label.true)
 
 loop_again : tie.Need-loop-i-preserved invariant_loop decreases_loop
-loop_again c = passed_more _ _ _ c.before.before.before.loop-i.invariant c.before.before.loop-i-test.true (sym c.before.is_label.ensures ∙ not-false _ c.if-not-is_label.false)
+loop_again c = passed_more _ _ _ c.before.before.before.loop-i.invariant c.before.before.loop-i-test.true (sym c.before.is_label.ensures ∙ c.if-not-is_label.false)
 
 pub are_slots_spec : {M : Type 1} → statement M
 are_slots_spec =

@@ -6,16 +6,16 @@ use Rattle.labels.proofs.operands.chosen_or.Statement.{statement}
 use Rattle.labels.proofs.operands.chosen_or.Tie as tie
 
 returns : tie.Need-returns-in_default
-returns c = other_kind _ c.before.args.e _ _ c.in-Arg.keys2
+returns c = other_kind _ c.args.e _ _ c.in_default.in_default-own.keys2
 
 returns_2 : tie.Need-returns-then-passes
 returns_2 c =
-    chosen _ _ _ _ _ c.before.before.before.before.label-1.given.1
+    chosen _ _ _ _ _ c.in-Arg.is
     (sym c.before.before.passes.ensures ∙ c.before.if-passes.true)
 
-returns_3 : tie.Need-returns-in_default
+returns_3 : tie.Need-returns
 returns_3 c =
-    not_chosen _ _ _ _ _ c.before.before.before.label-1.given.1 (sym c.before.passes.ensures ∙ c.if-passes.false)
+    not_chosen _ _ _ _ _ c.in-Arg.is (sym c.before.passes.ensures ∙ c.if-passes.false)
 
 pub chosen_or_spec : {M : Type 1} → statement M
 chosen_or_spec =

@@ -10,13 +10,13 @@ same_length : tie.Need-shape_of-s-in-Unmasked
 same_length c = ap length c.before.before.put_small.ensures ∙ simp length-set
 
 returns : tie.Need-returns-in-Unmasked
-returns c = unmasked_written _ _ _ _ c.before.before.before.before.enum_told-1.given.1 c.before.before.put_small.ensures
+returns c = unmasked_written _ _ _ _ c.in-Unmasked.is c.before.before.put_small.ensures
 
 same_length_2 : tie.Need-shape_of-s-in-Masked
 same_length_2 c = ap length c.before.before.put_numbers.ensures ∙ simp length-set
 
 returns_2 : tie.Need-returns-in-Masked
-returns_2 c = masked_written _ _ _ _ _ c.before.before.before.before.before.mask-1.given.1 c.before.before.put_numbers.ensures
+returns_2 c = masked_written _ _ _ _ _ c.in-Masked.is c.before.before.put_numbers.ensures
 
 pub put_mask_spec : {M : Type 1} → statement M
 put_mask_spec =
