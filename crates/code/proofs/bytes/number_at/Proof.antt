@@ -32,7 +32,7 @@ byte c = omega (arith, c.shared_slice_known-1.given (c.before.before.before.args
 cast_number : tie.Need-overflow_cast-number invariant_loop decreases_loop
 cast_number c = let h = byte c in omega arith
 
-add_number_2 : tie.Need-overflow-add-number-2 invariant_loop decreases_loop
+add_number_2 : tie.Need-overflow_add-number-in-loop-i invariant_loop decreases_loop
 add_number_2 c =
     let l = c.before.before in
     added_fits _ _ _ _ _ l.before.requires.1 c.before.loop-i-test.true l.loop-i.invariant _ (byte c)

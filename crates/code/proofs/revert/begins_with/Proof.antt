@@ -37,7 +37,7 @@ loop_less c = search rules
 loop_again : tie.Need-loop-i-preserved invariant_loop decreases_loop
 loop_again c = search (agrees, rules)
 
-returns_3 : tie.Need-returns-then-part-i invariant_loop decreases_loop
+returns_3 : tie.Need-returns invariant_loop decreases_loop
 returns_3 c = search (whole, rules)
 
 pub begins_with_spec : {M : Type 1} → statement M

@@ -5,21 +5,21 @@ use Rattle.text.proofs.Stacks.{Turn, turn_none, turn_inside, turn_stop, turn_roo
 use Rattle.text.proofs.write.close.Statement.{statement}
 use Rattle.text.proofs.write.close.Tie as tie
 
-abbrev invariant_loop : tie.invariant_loop
+abbrev invariant_loop : tie.invariant-loop-d
 invariant_loop held₀ depth out₀ to d₀ at₀ held out d at = Turn held₀ out₀ to depth held out d at
 
-abbrev decreases_loop : tie.decreases_loop
+abbrev decreases_loop : tie.decreases-loop-d
 decreases_loop held₀ depth out₀ to d₀ at₀ held out d at = d
 
-loop_again : tie.Need-loop-preserved invariant_loop decreases_loop
+loop_again : tie.Need-loop-d-preserved invariant_loop decreases_loop
 loop_again c =
     let p = c.before.before in
     let l = p.before.before.before.before.before in
     let s = l.before.before.before in
-    let taken = p.before.before.before.before.loop-test.true in
-    let low = p.before.before.if1.false in
-    turn_again _ _ _ _ _ _ _ _ l.loop.invariant taken s.requires.0 _ refl low _ _ p.put-closer.ensures
-    p.put-closer.auto.1.0
+    let taken = p.before.before.before.before.loop-d-test.true in
+    let low = p.before.before.if-left-gt1.false in
+    turn_again _ _ _ _ _ _ _ _ l.loop-d.invariant taken s.requires.0 _ refl low _ _ p.put_closer-at.ensures
+    p.put_closer-at.auto.out
 
 pub close_spec : {M : Type 1} → statement M
 close_spec =

@@ -9,11 +9,9 @@ pub put_closer_spec : {M : Type 1} → statement M
 put_closer_spec =
     tie.close
     (tie.spec
-    (λ c. search rules)
     (λ c κs. search (room, bracket_long, rules))
     (λ c. search rules)
     (λ c. search (stored_as, bracket_closer, rules))
-    (λ c. search rules)
     (λ c κs. search (room, paren_long, rules))
     (λ c. search rules)
     (λ c. search (stored_as, paren_closer, rules)))

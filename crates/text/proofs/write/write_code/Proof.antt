@@ -21,7 +21,6 @@ write_code_spec =
     (λ c. search (tuple_small, rules))
     (λ c. search rules)
     (λ c. search rules)
-    (λ c. search rules)
     (λ c κs. search (tuple_room, rules))
     (λ c. search rules)
     (λ c. search rules)

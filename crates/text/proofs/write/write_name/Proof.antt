@@ -13,12 +13,11 @@ write_name_spec =
     (λ c. search rules)
     (λ c. search rules)
     (λ c. search (name_last, rules))
-    (λ c. search rules)
     (λ c κs.
     let q = c.before.before.before.before.before.before.before in
     let p = q.before.before.before.before.before in
     let room = p.before.before.before.before.requires.1.1 in
-    comma_room _ _ _ _ _ room _ _ p.put-name.ensures _ _ _ _ q.close.ensures.0 c.before.before.if1.false)
+    comma_room _ _ _ _ _ room _ _ p.put_name-at.ensures _ _ _ _ q.close-shut.ensures.0 c.before.before.if-last.false)
     (λ c. search rules)
     (λ c. search rules)
     (λ c.
@@ -26,6 +25,6 @@ write_name_spec =
     let q = w.before.before.before.before.before.before.before.before in
     let p = q.before.before.before.before.before in
     let room = p.before.before.before.before.requires.1.1 in
-    let more = w.before.before.before.if1.false in
-    let shut = q.close.ensures in
-    (name_more _ _ _ _ _ room _ _ p.put-name.ensures _ _ _ _ shut.0 more _ _ w.put-bytes.ensures, shut.1)))
+    let more = w.before.before.before.if-last.false in
+    let shut = q.close-shut.ensures in
+    (name_more _ _ _ _ _ room _ _ p.put_name-at.ensures _ _ _ _ shut.0 more _ _ w.put_bytes-behind.ensures, shut.1)))

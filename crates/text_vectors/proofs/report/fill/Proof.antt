@@ -6,31 +6,31 @@ use lib.ListN.{length}
 use Rattle.text_vectors.proofs.report.fill.Statement.{statement}
 use Rattle.text_vectors.proofs.report.fill.Tie as tie
 
-abbrev invariant_loop : tie.invariant_loop
+abbrev invariant_loop : tie.invariant-loop-i
 invariant_loop out₀ i₀ out i = length out ≡ length out₀
 
-abbrev decreases_loop : tie.decreases_loop
+abbrev decreases_loop : tie.decreases-loop-i
 decreases_loop out₀ i₀ out i = length out₀ - i
 
-loop_holds : tie.Need-loop-init invariant_loop decreases_loop
+loop_holds : tie.Need-loop-i-init invariant_loop decreases_loop
 loop_holds c = search rules
 
 filling_requires : tie.Need-filling-requires invariant_loop decreases_loop
 filling_requires c κs = search rules
 
-slice_write_out : tie.Need-slice-write-out invariant_loop decreases_loop
+slice_write_out : tie.Need-bounds-out-i invariant_loop decreases_loop
 slice_write_out c = search rules
 
-add_i : tie.Need-overflow-add-i invariant_loop decreases_loop
+add_i : tie.Need-overflow_add-i invariant_loop decreases_loop
 add_i c = search rules
 
-loop_less : tie.Need-loop-smaller invariant_loop decreases_loop
+loop_less : tie.Need-loop-i-smaller invariant_loop decreases_loop
 loop_less c = search rules
 
-loop_again : tie.Need-loop-preserved invariant_loop decreases_loop
+loop_again : tie.Need-loop-i-preserved invariant_loop decreases_loop
 loop_again c = search rules
 
-same_length : tie.Need-same-length invariant_loop decreases_loop
+same_length : tie.Need-shape_of-out invariant_loop decreases_loop
 same_length c = search rules
 
 returns : tie.Need-returns invariant_loop decreases_loop

@@ -7,10 +7,10 @@ use Rattle.trace.proofs.Spans.{Spanning, spanning_none, spanning_short, spanning
 use Rattle.trace.proofs.entry.entry_length.Statement.{statement}
 use Rattle.trace.proofs.entry.entry_length.Tie as tie
 
-abbrev invariant_loop : tie.invariant_loop
+abbrev invariant_loop : tie.invariant-loop-wanted
 invariant_loop codes wanted₀ i₀ wanted i = Spanning codes wanted i
 
-abbrev decreases_loop : tie.decreases_loop
+abbrev decreases_loop : tie.decreases-loop-wanted
 decreases_loop codes wanted₀ i₀ wanted i = length codes - i
 
 pub entry_length_spec : {M : Type 1} → statement M

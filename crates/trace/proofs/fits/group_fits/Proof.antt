@@ -4,4 +4,4 @@ use Rattle.trace.proofs.fits.group_fits.Statement.{statement}
 use Rattle.trace.proofs.fits.group_fits.Tie as tie
 
 pub group_fits_spec : {M : Type 1} → statement M
-group_fits_spec = tie.close (tie.spec (λ c. simp (lt-leb _ _ c.if1.true)) (λ c. simp (le-leb _ _ c.if1.false)))
+group_fits_spec = tie.close (tie.spec (λ c. simp (lt-leb _ _ c.if-slots-gt-TRACE_SLOTS_MAX.true)) (λ c. simp (le-leb _ _ c.if-slots-gt-TRACE_SLOTS_MAX.false)))

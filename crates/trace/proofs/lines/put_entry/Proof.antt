@@ -4,57 +4,40 @@ use Rattle.trace.proofs.EntryLines.{entry_refused, entry_near, entry_room, entry
 use Rattle.trace.proofs.lines.put_entry.Statement.{statement}
 use Rattle.trace.proofs.lines.put_entry.Tie as tie
 
--- the places behind the blank and behind the number, and the start, seen from the text call
-abbrev gap : tie.After-text → tie.After-put-bytes
-gap t = t.before.before.before.before
-
-abbrev number : tie.After-text → tie.After-put-numbered
-number t = (gap t).before.before.before.before.before
-
-abbrev start : tie.After-text → tie.Start
-start t = (number t).before.before.before.before.before
-
-add_put_bytes : tie.Need-overflow-add-put-bytes
+add_put_bytes : tie.Need-overflow_add-from
 add_put_bytes c =
-    let t = c.before.before.before.before.before.before in
     let near =
-    entry_near _ _ _ _ _ _ _ _ (start t).requires (number t).put-numbered.ensures.0 (gap t).put-bytes.ensures _ _
-    t.text.ensures _ c.before.before.answer.given.1 in
+    entry_near _ _ _ _ _ _ _ _ c.requires c.put_numbered-at.ensures.0 c.put_bytes-from.ensures _ _
+    c.text-answer.ensures _ c.in-Written.is in
     search rules
 
-put_bytes_requires_2 : tie.Need-put-bytes-requires-2
+put_bytes_requires_2 : tie.Need-put_bytes-requires
 put_bytes_requires_2 c κs =
-    let t = c.before.before.before.before.before.before.before in
-    entry_room _ _ _ _ _ _ _ _ (start t).requires (number t).put-numbered.ensures.0 (gap t).put-bytes.ensures _ _
-    t.text.ensures _ c.before.before.before.answer.given.1 (search rules)
+    entry_room _ _ _ _ _ _ _ _ c.requires c.put_numbered-at.ensures.0 c.put_bytes-from.ensures _ _
+    c.text-answer.ensures _ c.in-Written.is (search rules)
 
-returns : tie.Need-returns
+returns : tie.Need-returns-in-Written
 returns c =
-    let t = c.before.before.before.before.before.before.before.before.before.before in
-    let n = c.before.before.before.before.before.before.answer.given.1 in
     let near =
-    entry_near _ _ _ _ _ _ _ _ (start t).requires (number t).put-numbered.ensures.0 (gap t).put-bytes.ensures _ _
-    t.text.ensures _ n in
+    entry_near _ _ _ _ _ _ _ _ c.requires c.put_numbered-at.ensures.0 c.put_bytes-from.ensures _ _
+    c.text-answer.ensures _ c.in-Written.is in
     let line =
-    entry_written _ _ _ _ _ _ _ _ (start t).requires (number t).put-numbered.ensures.0 (gap t).put-bytes.ensures _ _
-    t.text.ensures _ n _ _ c.before.before.put-bytes2.ensures in
+    entry_written _ _ _ _ _ _ _ _ c.requires c.put_numbered-at.ensures.0 c.put_bytes-from.ensures _ _
+    c.text-answer.ensures _ c.in-Written.is _ _ c.put_bytes.ensures in
     (line, search rules)
 
-returns_2 : tie.Need-returns-2
+returns_2 : tie.Need-returns-in-Refused
 returns_2 c =
-    let t = c.before.before.before.before.before in
     let line =
-    entry_refused _ _ _ _ _ _ _ _ (start t).requires (number t).put-numbered.ensures.0 (gap t).put-bytes.ensures _ _
-    t.text.ensures _ _ c.before.answer2.given.1 in
+    entry_refused _ _ _ _ _ _ _ _ c.requires c.put_numbered-at.ensures.0 c.put_bytes-from.ensures _ _
+    c.text-answer.ensures _ _ c.in-Refused.is in
     (line, search rules)
 
 pub put_entry_spec : {M : Type 1} → statement M
 put_entry_spec =
     tie.close
     (tie.spec
-    (λ c. search rules)
     (λ c κs. search rules)
-    (λ c. search rules)
     (λ c κs. search rules)
     (λ c. search rules)
     (λ c. search rules)
@@ -62,7 +45,6 @@ put_entry_spec =
     (λ c κs. search rules)
     (λ c. search rules)
     add_put_bytes
-    (λ c. search rules)
     put_bytes_requires_2
     (λ c. search rules)
     (λ c. search rules)

@@ -8,11 +8,8 @@ pub put_refused_spec : {M : Type 1} → statement M
 put_refused_spec =
     tie.close
     (tie.spec
-    (λ c. search rules)
     (λ c κs. search rules)
-    (λ c. search rules)
     (λ c κs. search rules)
-    (λ c. search rules)
     (λ c κs. search rules)
     (λ c. search rules)
     (λ c. search (refused_stored, rules)))

@@ -5,10 +5,10 @@ use borrow.Author.Rules.{rules}
 use Rattle.trace.proofs.listing.put_entries.Statement.{statement}
 use Rattle.trace.proofs.listing.put_entries.Tie as tie
 
-abbrev invariant_loop : tie.invariant_loop
+abbrev invariant_loop : tie.invariant-loop-k
 invariant_loop out₀ from entries codes at₀ to₀ k₀ out at to k = Listing entries codes out₀ from at to k out
 
-abbrev decreases_loop : tie.decreases_loop
+abbrev decreases_loop : tie.decreases-loop-k
 decreases_loop out₀ from entries codes at₀ to₀ k₀ out at to k = entries - k
 
 pub put_entries_spec : {M : Type 1} → statement M

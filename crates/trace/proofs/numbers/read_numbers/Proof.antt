@@ -8,10 +8,10 @@ use Rattle.trace.proofs.NumberLaws.{numbers_none, numbers_more, numbers_end}
 use Rattle.trace.proofs.numbers.read_numbers.Statement.{statement}
 use Rattle.trace.proofs.numbers.read_numbers.Tie as tie
 
-abbrev invariant_loop : tie.invariant_loop
+abbrev invariant_loop : tie.invariant-loop-i
 invariant_loop bytes out₀ i₀ out i = (i ≤ length out₀) × (length out ≡ length out₀) × (take i out ≡ numbers_of i bytes)
 
-abbrev decreases_loop : tie.decreases_loop
+abbrev decreases_loop : tie.decreases-loop-i
 decreases_loop bytes out₀ i₀ out i = length out₀ - i
 
 pub read_numbers_spec : {M : Type 1} → statement M
