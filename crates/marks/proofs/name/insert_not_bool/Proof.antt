@@ -6,8 +6,7 @@ use Rattle.marks.proofs.name.insert_not_bool.Tie as tie
 
 returns : tie.Need-returns
 returns c =
-    let d = c.before.before in
-    marked _ _ _ _ _ _ _ _ _ d.before.before.before.before.ensure-child.ensures d.store.ensures
+    marked _ _ _ _ _ _ _ _ _ c.ensure_child-m.ensures c.store.ensures
 
 pub insert_not_bool_spec : {M : Type 1} → statement M
 insert_not_bool_spec = tie.close (tie.spec (λ c κs. search rules) (λ c κs. search rules) (λ c. search rules) returns)

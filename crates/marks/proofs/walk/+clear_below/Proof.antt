@@ -27,14 +27,14 @@ abbrev clear_below_below : ℕ → In 1 clear-below-kinds.ps
 clear_below_below t =
     and 1 clear-below-kinds.ps (falls 1 clear-below-kinds.ps ◌<◌ μ_clear_below t) clear-below.Pre
 
-abbrev clear_below_Inv_loop : clear-below-lts.invariant_loop
+abbrev clear_below_Inv_loop : clear-below-lts.invariant-loop-c
 clear_below_Inv_loop table₀ n used p c₀ table c = Clearing table₀ used n p table c
 
-abbrev clear_below_μ_loop : clear-below-lts.decreases_loop
+abbrev clear_below_μ_loop : clear-below-lts.decreases-loop-c
 clear_below_μ_loop table₀ n used p c₀ table c = keys-left c (key_of table c)
 
 -- src/walk.rt:33:5
-clear_below_drop_range_requires : (t : ℕ) → clear-below-lts.Need-drop-range-requires (
+clear_below_drop_range_requires : (t : ℕ) → clear-below-lts.Need-drop_range-requires (
   drop-range-reads.Asked,
   drop-range-reads.Learnt,
   field-reads.Asked,
@@ -42,10 +42,10 @@ clear_below_drop_range_requires : (t : ℕ) → clear-below-lts.Need-drop-range-
   clear_below_below t,
   clear-below.Post,
 ) (clear_below_at t) clear-below.Post clear_below_Inv_loop clear_below_μ_loop
-clear_below_drop_range_requires t c κs = let s = c.before.before in (s.requires.1.0, (s.requires.1.1.0, s.requires.1.1.1))
+clear_below_drop_range_requires t c κs = (c.requires.1.0, (c.requires.1.1.0, c.requires.1.1.1))
 
 -- src/walk.rt:34:9
-clear_below_field_requires : (t : ℕ) → clear-below-lts.Need-field-requires (
+clear_below_field_requires : (t : ℕ) → clear-below-lts.Need-field-c-requires (
   drop-range-reads.Asked,
   drop-range-reads.Learnt,
   field-reads.Asked,
@@ -54,12 +54,11 @@ clear_below_field_requires : (t : ℕ) → clear-below-lts.Need-field-requires (
   clear-below.Post,
 ) (clear_below_at t) clear-below.Post clear_below_Inv_loop clear_below_μ_loop
 clear_below_field_requires t c κs =
-    let d = c.before.before.before in
-    let s = d.before.before.before in
-    has_field _ _ _ _ 2 d.drop-range.ensures.shaped s.requires.1.1.0 s.requires.1.1.1 (omega arith)
+    let s = c.before.before.before.before.before in
+    has_field _ _ _ _ 2 c.drop_range.ensures.shaped s.requires.1.1.0 s.requires.1.1.1 (omega arith)
 
 -- src/walk.rt:35:5
-clear_below_loop_holds : (t : ℕ) → clear-below-lts.Need-loop-init (
+clear_below_loop_holds : (t : ℕ) → clear-below-lts.Need-loop-c-init (
   drop-range-reads.Asked,
   drop-range-reads.Learnt,
   field-reads.Asked,
@@ -68,12 +67,11 @@ clear_below_loop_holds : (t : ℕ) → clear-below-lts.Need-loop-init (
   clear-below.Post,
 ) (clear_below_at t) clear-below.Post clear_below_Inv_loop clear_below_μ_loop
 clear_below_loop_holds t c =
-    let d = c.before.before.before.before in
-    let s = d.before.before.before in
-    clearing_start _ _ _ _ _ d.drop-range.ensures.shaped s.requires.1.1.0 s.requires.1.1.1 c.field.ensures
+    let s = c.before.before.before.before.before.before in
+    clearing_start _ _ _ _ _ c.drop_range.ensures.shaped s.requires.1.1.0 s.requires.1.1.1 c.field-c.ensures
 
 -- src/walk.rt:36:9
-clear_below_clear_below_requires : (t : ℕ) → clear-below-lts.Need-clear-below-requires (
+clear_below_clear_below_requires : (t : ℕ) → clear-below-lts.Need-clear_below-requires (
   drop-range-reads.Asked,
   drop-range-reads.Learnt,
   field-reads.Asked,
@@ -82,17 +80,15 @@ clear_below_clear_below_requires : (t : ℕ) → clear-below-lts.Need-clear-belo
   clear-below.Post,
 ) (clear_below_at t) clear-below.Post clear_below_Inv_loop clear_below_μ_loop
 clear_below_clear_below_requires t c κs =
-    let i = c.before in
-    let l = i.before in
-    let s = l.before.before.before.before.before.before.before.before in
-    let K = l.loop.invariant.first.kid i.loop-test.true in
+    let s = c.before.before.before.before.before.before.before.before.before in
+    let K = c.loop-c.invariant.first.kid c.loop-c-test.true in
     let q = s.requires.0 in
     let a = K.above in
     let b = K.used in
-    (omega arith, (l.loop.invariant.shaped, (omega arith, b)))
+    (omega arith, (c.loop-c.invariant.shaped, (omega arith, b)))
 
 -- src/walk.rt:37:9
-clear_below_field_requires_2 : (t : ℕ) → clear-below-lts.Need-field-requires-2 (
+clear_below_field_requires_2 : (t : ℕ) → clear-below-lts.Need-field-c-requires-in-loop-c (
   drop-range-reads.Asked,
   drop-range-reads.Learnt,
   field-reads.Asked,
@@ -101,14 +97,11 @@ clear_below_field_requires_2 : (t : ℕ) → clear-below-lts.Need-field-requires
   clear-below.Post,
 ) (clear_below_at t) clear-below.Post clear_below_Inv_loop clear_below_μ_loop
 clear_below_field_requires_2 t c κs =
-    let d = c.before.before.before in
-    let i = d.before.before in
-    let l = i.before in
-    let K = l.loop.invariant.first.kid i.loop-test.true in
-    has_field _ _ _ _ 3 d.clear-below.ensures.0 (let a = K.above in omega arith) K.used (omega arith)
+    let K = c.loop-c.invariant.first.kid c.loop-c-test.true in
+    has_field _ _ _ _ 3 c.clear_below.ensures.0 (let a = K.above in omega arith) K.used (omega arith)
 
 -- src/walk.rt:35:5
-clear_below_loop_less : (t : ℕ) → clear-below-lts.Need-loop-smaller (
+clear_below_loop_less : (t : ℕ) → clear-below-lts.Need-loop-c-smaller (
   drop-range-reads.Asked,
   drop-range-reads.Learnt,
   field-reads.Asked,
@@ -117,16 +110,12 @@ clear_below_loop_less : (t : ℕ) → clear-below-lts.Need-loop-smaller (
   clear-below.Post,
 ) (clear_below_at t) clear-below.Post clear_below_Inv_loop clear_below_μ_loop
 clear_below_loop_less t c =
-    let k = c.before.before in
-    let d = k.before.before in
-    let i = d.before.before in
-    let l = i.before in
-    let s = l.before.before.before.before.before.before.before.before in
-    clearing_less _ _ _ _ _ _ l.loop.invariant s.requires.1.1.0 i.loop-test.true _ d.clear-below.ensures.0 d.clear-below.ensures.1 _
-    s.requires.1.1.1 (key_fits _ k.slice-known3.given l.loop.c) c.field2.ensures
+    let s = c.before.before.before.before.before.before.before.before.before.before.before.before.before in
+    clearing_less _ _ _ _ _ _ c.loop-c.invariant s.requires.1.1.0 c.loop-c-test.true _ c.clear_below.ensures.0 c.clear_below.ensures.1 _
+    s.requires.1.1.1 (key_fits _ c.slice_known-in-loop-c-1.given c.loop-c.c) c.field-c-in-loop-c.ensures
 
 -- src/walk.rt:35:5
-clear_below_loop_again : (t : ℕ) → clear-below-lts.Need-loop-preserved (
+clear_below_loop_again : (t : ℕ) → clear-below-lts.Need-loop-c-preserved (
   drop-range-reads.Asked,
   drop-range-reads.Learnt,
   field-reads.Asked,
@@ -135,14 +124,11 @@ clear_below_loop_again : (t : ℕ) → clear-below-lts.Need-loop-preserved (
   clear-below.Post,
 ) (clear_below_at t) clear-below.Post clear_below_Inv_loop clear_below_μ_loop
 clear_below_loop_again t c =
-    let d = c.before.before.before.before in
-    let i = d.before.before in
-    let l = i.before in
-    let s = l.before.before.before.before.before.before.before.before in
-    clearing_next _ _ _ _ _ _ l.loop.invariant s.requires.1.1.0 i.loop-test.true _ d.clear-below.ensures.0 d.clear-below.ensures.1 _ c.field2.ensures
+    let s = c.before.before.before.before.before.before.before.before.before.before.before.before.before in
+    clearing_next _ _ _ _ _ _ c.loop-c.invariant s.requires.1.1.0 c.loop-c-test.true _ c.clear_below.ensures.0 c.clear_below.ensures.1 _ c.field-c-in-loop-c.ensures
 
 -- src/walk.rt:27:1
-clear_below_same_length : (t : ℕ) → clear-below-lts.Need-same-length (
+clear_below_same_length : (t : ℕ) → clear-below-lts.Need-shape_of-table (
   drop-range-reads.Asked,
   drop-range-reads.Learnt,
   field-reads.Asked,
@@ -151,9 +137,8 @@ clear_below_same_length : (t : ℕ) → clear-below-lts.Need-same-length (
   clear-below.Post,
 ) (clear_below_at t) clear-below.Post clear_below_Inv_loop clear_below_μ_loop
 clear_below_same_length t c =
-    let l = c.before in
-    let s = l.before.before.before.before.before.before.before.before in
-    l.loop.invariant.shaped.size ∙ sym s.requires.1.0.size
+    let s = c.before.before.before.before.before.before.before.before in
+    c.loop-c.invariant.shaped.size ∙ sym s.requires.1.0.size
 
 -- src/walk.rt:27:1
 clear_below_returns : (t : ℕ) → clear-below-lts.Need-returns (
@@ -165,11 +150,9 @@ clear_below_returns : (t : ℕ) → clear-below-lts.Need-returns (
   clear-below.Post,
 ) (clear_below_at t) clear-below.Post clear_below_Inv_loop clear_below_μ_loop
 clear_below_returns t c =
-    let l = c.before in
-    let d = l.before.before.before.before.before in
-    let s = d.before.before.before in (
-      l.loop.invariant.shaped,
-      clearing_done _ _ _ _ _ _ l.loop.invariant s.requires.1.1.0 _ s.requires.1.1.1 c.loop-test.false s.requires.1.0 d.drop-range.ensures,
+    let s = c.before.before.before.before.before.before.before.before in (
+      c.loop-c.invariant.shaped,
+      clearing_done _ _ _ _ _ _ c.loop-c.invariant s.requires.1.1.0 _ s.requires.1.1.1 c.loop-c-test.false s.requires.1.0 c.drop_range.ensures,
     )
 
 pub +clear_below_spec : {M : Type 1} → statement M

@@ -5,15 +5,13 @@ use Rattle.marks.proofs.WalkLaws.{root_cleared}
 use Rattle.marks.proofs.walk.clear_range_hints.Statement.{statement}
 use Rattle.marks.proofs.walk.clear_range_hints.Tie as tie
 
-clear_below_requires : tie.Need-clear-below-requires
+clear_below_requires : tie.Need-clear_below-requires
 clear_below_requires c κs =
-    let s = c.before.before in
-    (s.requires, (omega arith, s.requires.linked.some))
+    (c.requires, (omega arith, c.requires.linked.some))
 
 returns : tie.Need-returns
 returns c =
-    let d = c.before.before in
-    root_cleared _ _ _ _ d.before.before.before.requires d.clear-below.ensures.0 d.clear-below.ensures.1
+    root_cleared _ _ _ _ c.requires c.clear_below.ensures.0 c.clear_below.ensures.1
 
 pub clear_range_hints_spec : {M : Type 1} → statement M
 clear_range_hints_spec = tie.close (tie.spec clear_below_requires (λ c. search rules) returns)

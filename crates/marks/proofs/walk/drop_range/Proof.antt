@@ -4,19 +4,15 @@ use Rattle.marks.proofs.WalkLaws.{range_dropped, range_none}
 use Rattle.marks.proofs.walk.drop_range.Statement.{statement}
 use Rattle.marks.proofs.walk.drop_range.Tie as tie
 
-returns : tie.Need-returns
+returns : tie.Need-returns-then-field-eq-BY_RANGE
 returns c =
-    let d = c.before.before in
-    let i = d.before.before in
-    let f = i.before in
-    let s = f.before.before.before in
-    range_dropped _ _ _ _ _ s.requires.1.0 s.requires.1.1 f.field.ensures _ i.if1.true d.drop-name.ensures
+    let s = c.before.before.before.before.before.before.before in
+    range_dropped _ _ _ _ _ s.requires.1.0 s.requires.1.1 c.field.ensures _ c.if-field-eq-BY_RANGE.true c.drop_name.ensures
 
-returns_2 : tie.Need-returns-2
+returns_2 : tie.Need-returns-else-field-eq-BY_RANGE
 returns_2 c =
-    let f = c.before in
-    let s = f.before.before.before in
-    range_none _ _ _ _ _ s.requires.1.0 s.requires.1.1 f.field.ensures s.requires.0 c.if1.false
+    let s = c.before.before.before in
+    range_none _ _ _ _ _ s.requires.1.0 s.requires.1.1 c.field.ensures s.requires.0 c.if-field-eq-BY_RANGE.false
 
 pub drop_range_spec : {M : Type 1} → statement M
 drop_range_spec =
