@@ -27,6 +27,7 @@ put_name_spec =
     (λ c. search (stored_as, string_text, rules))
     (λ c. search (name_wide, rules))
     (λ c κs. search (room_sized, uint_long, name_wide, rules))
+    (λ c. search rules)
     (λ c. search (stored_as, uint_text, name_wide, rules))
     (λ c κs. search (room_sized, int_long, rules))
     (λ c. search rules)
