@@ -20,6 +20,7 @@ use Rattle.budget.proofs.KidLaws.{Child, kid_child, child_kid}
 use Rattle.budget.proofs.LevelLaws.{shallow_is}
 
 pub all_in : (f : ℕ → Bool) (ms : List ℕ) → all_of f ms ≡ true → (m : ℕ) → In m ms → f m ≡ true
+all_in f [] e m x'' = elim x'' [ ]
 all_in f (x ∷ ms) e m (inl q) = ap f q ∙ ((and-eq-true_iff (f x) (all_of f ms)).0 e).0
 all_in f (x ∷ ms) e m (inr i) = all_in f ms ((and-eq-true_iff (f x) (all_of f ms)).0 e).1 m i
 

@@ -26,6 +26,7 @@ ByKey s b [] = Unit {0}
 ByKey s b (m ∷ ms) = (b ≤ (node_of s m).key) × ByKey s ((node_of s m).key + 1) ms
 
 pub key_low : (s : List Node) (b : ℕ) (ms : List ℕ) (r : ℕ) → ByKey s b ms → In r ms → b ≤ (node_of s r).key
+key_low s b [] r h x'' = elim x'' [ ]
 key_low s b (m ∷ ms) r h (inl e) = rw e h.0
 key_low s b (m ∷ ms) r h (inr i) = let g = key_low s ((node_of s m).key + 1) ms r h.1 i in let g0 = h.0 in omega arith
 
@@ -57,6 +58,7 @@ seen_in s r (m ∷ ms) i = go (eqb (node_of s m).seen 1) refl (seen_in s r ms) i
 in_seen : (s : List Node) (r : ℕ) (ms : List ℕ) → In r ms → (node_of s r).seen ≡ 1 → In r (seen_ones s ms)
 unfolding seen_ones
 in_seen s r (m ∷ ms) (inl q) y = rw (eq-eqb (node_of s m).seen 1 (ap (λ (x : ℕ). (node_of s x).seen) (sym q) ∙ y)) (inl q)
+in_seen s r [] x'' y = elim x'' [ ]
 in_seen s r (m ∷ ms) (inr i) y = go (eqb (node_of s m).seen 1) (in_seen s r ms i y)
   where
     go : (c : Bool) → In r (seen_ones s ms) → In r (cond c (m ∷ seen_ones s ms) (seen_ones s ms))

@@ -60,6 +60,7 @@ module _ (s : List Node) (f : ℕ → ℕ) where
 
   -- a child at k counts from k on, and not from a later key on
   pub from_kid : (k j c : ℕ) (ms : List ℕ) → k < j → (node_of s c).key ≡ k → In c ms → sum_of (from j) ms + f c ≤ sum_of (from k) ms
+  from_kid k j c [] h e x3 = elim x3 [ ]
   from_kid k j c (m ∷ ms) h e (inl q) =
       let d : (node_of s m).key ≡ k = ap (λ (x : ℕ). (node_of s x).key) (sym q) ∙ e in
       let a : from j m ≡ 0 = rw (lt-leb j (node_of s m).key (omega arith)) refl in

@@ -10,7 +10,7 @@ pub fits_type_budget_spec : {M : Type 1} → statement M
 fits_type_budget_spec =
     tie.close
     (tie.spec
-    (λ c κs. let S = c.before.requires in (sound_shaped _ _ _ S, (omega arith, S.some, omega arith, S.root.seen)))
-    (λ c. let k = c.before.before in root_over k.before.before.requires k.left_below.ensures c.if1.true)
+    (λ c κs. let S = c.requires in (sound_shaped _ _ _ S, (omega arith, S.some, omega arith, S.root.seen)))
+    (λ c. root_over c.requires c.left_below-below.ensures c.if-below-eq0.true)
     (λ c. search rules)
-    (λ c. let e = c.before in let k = e.before.before in root_left k.before.before.requires k.left_below.ensures e.if1.false))
+    (λ c. root_left c.requires c.left_below-below.ensures c.if-below-eq0.false))

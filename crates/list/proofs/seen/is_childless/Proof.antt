@@ -9,54 +9,43 @@ use Rattle.list.proofs.ChildrenLaws.{Looking, looking_start, looking_unseen, chi
 use Rattle.list.proofs.seen.is_childless.Statement.{statement}
 use Rattle.list.proofs.seen.is_childless.Tie as tie
 
-abbrev invariant_loop : tie.invariant_loop
+abbrev invariant_loop : tie.invariant-loop-child
 invariant_loop table n used r child₀ child = Looking table used r 0 0 0 child
 
-abbrev decreases_loop : tie.decreases_loop
+abbrev decreases_loop : tie.decreases-loop-child
 decreases_loop table n used r child₀ child = keys-left child (key_of table child)
 
-field_requires : tie.Need-field-requires invariant_loop decreases_loop
-field_requires c κs = let s = c.before in has_field _ _ _ _ _ s.requires.0 s.requires.1.0 s.requires.1.1 (omega arith)
+field_requires : tie.Need-field-child-requires invariant_loop decreases_loop
+field_requires c κs = has_field _ _ _ _ _ c.requires.0 c.requires.1.0 c.requires.1.1 (omega arith)
 
-loop_holds : tie.Need-loop-init invariant_loop decreases_loop
-loop_holds c = let s = c.before.before in looking_start _ _ _ _ _ s.requires.0 s.requires.1.0 s.requires.1.1 c.field.ensures
+loop_holds : tie.Need-loop-child-init invariant_loop decreases_loop
+loop_holds c = looking_start _ _ _ _ _ c.requires.0 c.requires.1.0 c.requires.1.1 c.field-child.ensures
 
-field_requires_2 : tie.Need-field-requires-2 invariant_loop decreases_loop
+field_requires_2 : tie.Need-field-requires invariant_loop decreases_loop
 field_requires_2 c κs =
-    let s = c.before.before.before.before in
-    let K = tail_kid _ _ _ _ _ c.before.loop.invariant.tail c.loop-test.true in
-    has_field _ _ _ _ _ s.requires.0 (let a = K.above in omega arith) K.used (omega arith)
+    let K = tail_kid _ _ _ _ _ c.loop-child.invariant.tail c.loop-child-test.true in
+    has_field _ _ _ _ _ c.requires.0 (let a = K.above in omega arith) K.used (omega arith)
 
-returns : tie.Need-returns invariant_loop decreases_loop
+returns : tie.Need-returns-then-field-eq1 invariant_loop decreases_loop
 returns c =
-    let f = c.before in
-    let i = f.before in
-    childless_no _ _ _ _ i.before.loop.invariant i.loop-test.true _ f.field2.ensures c.if1.true
+    childless_no _ _ _ _ c.loop-child.invariant c.loop-child-test.true _ c.field.ensures c.if-field-eq1.true
 
-field_requires_3 : tie.Need-field-requires-3 invariant_loop decreases_loop
+field_requires_3 : tie.Need-field-child-requires-in-loop-child invariant_loop decreases_loop
 field_requires_3 c κs =
-    let i = c.before.before in
-    let s = i.before.before.before.before in
-    let K = tail_kid _ _ _ _ _ i.before.loop.invariant.tail i.loop-test.true in
-    has_field _ _ _ _ _ s.requires.0 (let a = K.above in omega arith) K.used (omega arith)
+    let K = tail_kid _ _ _ _ _ c.loop-child.invariant.tail c.loop-child-test.true in
+    has_field _ _ _ _ _ c.requires.0 (let a = K.above in omega arith) K.used (omega arith)
 
-loop_less : tie.Need-loop-smaller invariant_loop decreases_loop
+loop_less : tie.Need-loop-child-smaller invariant_loop decreases_loop
 loop_less c =
-    let i = c.before.before.before in
-    let k = i.before.before.before in
-    let s = k.before in
-    next_less _ _ _ _ _ s.requires.0.linked s.requires.1.0 s.requires.1.1 (tail_kid _ _ _ _ _ i.before.loop.invariant.tail i.loop-test.true)
-    (key_fits _ k.shared-slice-known.given i.before.loop.child) c.field3.ensures
+    next_less _ _ _ _ _ c.requires.0.linked c.requires.1.0 c.requires.1.1 (tail_kid _ _ _ _ _ c.loop-child.invariant.tail c.loop-child-test.true)
+    (key_fits _ c.shared_slice_known-1.given c.loop-child.child) c.field-child-in-loop-child.ensures
 
-loop_again : tie.Need-loop-preserved invariant_loop decreases_loop
+loop_again : tie.Need-loop-child-preserved invariant_loop decreases_loop
 loop_again c =
-    let e = c.before in
-    let f = e.before in
-    let i = f.before in
-    looking_unseen _ _ _ _ _ _ _ i.before.loop.invariant i.loop-test.true _ _ _ _ _ f.field2.ensures e.if1.false refl refl refl c.field3.ensures
+    looking_unseen _ _ _ _ _ _ _ c.loop-child.invariant c.loop-child-test.true _ _ _ _ _ c.field.ensures c.if-field-eq1.false refl refl refl c.field-child-in-loop-child.ensures
 
-returns_2 : tie.Need-returns-2 invariant_loop decreases_loop
-returns_2 c = childless_yes _ _ _ _ c.before.loop.invariant c.loop-test.false
+returns_2 : tie.Need-returns invariant_loop decreases_loop
+returns_2 c = childless_yes _ _ _ _ c.loop-child.invariant c.loop-child-test.false
 
 pub is_childless_spec : {M : Type 1} → statement M
 is_childless_spec =

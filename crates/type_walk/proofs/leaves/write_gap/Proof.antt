@@ -19,85 +19,77 @@ key_end = 4294967295
 some_left : (first end k : ℕ) → (first ≡ 0 → end ≡ key_end) → end ≤ k → k < key_end → first ≡ 0 → ⊥
 some_left first end k e l h z = let q = e z in omega arith
 
-abbrev invariant_loop : tie.invariant_loop
+abbrev invariant_loop : tie.invariant-loop-done
 invariant_loop table n used r start words first types₀ at done₀ to₀ end types done to =
     Writing table used r start words types₀ at types to first done × ((first ≡ 0 → ⊥) → end ≡ key_of table first) × (first ≡ 0 → end ≡ key_end)
 
-abbrev decreases_loop : tie.decreases_loop
+abbrev decreases_loop : tie.decreases-loop-done
 decreases_loop table n used r start words first types₀ at done₀ to₀ end types done to = words - done
 
-field_requires : tie.Need-field-requires invariant_loop decreases_loop
+field_requires : tie.Need-field-end-requires invariant_loop decreases_loop
 field_requires c κs =
-    let s = c.before.before.before in kid_has _ _ _ _ _ (sound_shaped _ _ _ s.requires.0).linked (s.requires.1.1.0.first.kid c.if1.true) (omega arith)
+    kid_has _ _ _ _ _ (sound_shaped _ _ _ c.requires.0).linked (c.requires.1.1.0.first.kid c.if-first-ne0.true) (omega arith)
 
-loop_holds : tie.Need-loop-init invariant_loop decreases_loop
-loop_holds c =
-    let s = c.before.before.before in (
-      writing_start _ _ _ _ _ _ _ _ s.requires.1.1.0,
-      ⊎_elim (λ w n. w.2 ∙ w.1.ensures) (λ w n. absurd (n w.0.left)) c.if1.branch,
-      ⊎_elim (λ w z. absurd (w.0.taken z)) (λ w z. w.1) c.if1.branch,
-    )
+loop_holds : tie.Need-loop-done-init invariant_loop decreases_loop
+loop_holds c = (
+  writing_start _ _ _ _ _ _ _ _ c.requires.1.1.0,
+  ⊎_elim (λ w n. w.end-is ∙ w.field-end.ensures) (λ w n. absurd (n w.if-first-ne0.false)) c.if-first-ne0.branch-raw,
+  ⊎_elim (λ w z. absurd (w.if-first-ne0.true z)) (λ w z. w.end-is) c.if-first-ne0.branch-raw,
+)
 
 -- the numbers of the words are small
-add_if2 : tie.Need-overflow-add-if2 invariant_loop decreases_loop
-add_if2 c =
-    let l = c.before in let s = l.before.before.before.before in let h = s.requires.1.0.2 in let t = c.loop-test.true in record { fits = omega arith }
+add_start : tie.Need-overflow_add-start invariant_loop decreases_loop
+add_start c =
+    let h = c.requires.1.0.2 in let t = c.loop-done-test.true in record { fits = omega arith }
 
-mul_if2 : tie.Need-overflow-mul-if2 invariant_loop decreases_loop
-mul_if2 c =
-    let l = c.before in let s = l.before.before.before.before in let h = s.requires.1.0.2 in let t = c.loop-test.true in record { fits = omega arith }
+mul_start : tie.Need-overflow_mul-start invariant_loop decreases_loop
+mul_start c =
+    let h = c.requires.1.0.2 in let t = c.loop-done-test.true in record { fits = omega arith }
 
-same_length : tie.Need-same-length invariant_loop decreases_loop
+same_length : tie.Need-shape_of-types-then-end-start invariant_loop decreases_loop
 same_length c =
-    c.before.before.loop.invariant.0.size
+    c.loop-done.invariant.0.size
 
-returns : tie.Need-returns invariant_loop decreases_loop
+returns : tie.Need-returns-then-end-start invariant_loop decreases_loop
 returns c =
-    let i = c.before in let l = i.before in let s = l.before.before.before.before in
-    let h = s.requires.1.0.2 in let t = i.loop-test.true in let a = c.if2.true in
-    let n = some_left _ _ _ l.loop.invariant.2 a (omega arith) in
-    (l.loop.invariant.0, (λ z. absurd (n z), λ _. let e = l.loop.invariant.1 n in omega arith))
+    let h = c.requires.1.0.2 in let t = c.loop-done-test.true in let a = c.if-end-start.true in
+    let n = some_left _ _ _ c.loop-done.invariant.2 a (omega arith) in
+    (c.loop-done.invariant.0, (λ z. absurd (n z), λ _. let e = c.loop-done.invariant.1 n in omega arith))
 
 -- there is room for the code
-mul_types : tie.Need-overflow-mul-types invariant_loop decreases_loop
-mul_types c =
-    let i = c.before in let l = i.before in let s = l.before.before.before.before in
-    let h = gap_fits _ _ _ _ _ _ s.requires.0 s.requires.1.0.0 s.requires.1.0.1 _ _ _ _ _ _ l.loop.invariant.0 i.loop-test.true _ l.loop.invariant.1 c.if2.false s.requires.1.1.1.0 in record { fits = omega arith }
+offset_types : tie.Need-offset_bounds-types-to invariant_loop decreases_loop
+offset_types c =
+    let h = gap_fits _ _ _ _ _ _ c.requires.0 c.requires.1.0.0 c.requires.1.0.1 _ _ _ _ _ _ c.loop-done.invariant.0 c.loop-done-test.true _ c.loop-done.invariant.1 c.if-end-start.false c.requires.1.1.1.0 in record { fits = omega arith }
 
-slice_write_types : tie.Need-slice-write-types invariant_loop decreases_loop
+slice_write_types : tie.Need-bounds-types-to invariant_loop decreases_loop
 slice_write_types c =
-    let i = c.before in let l = i.before in let s = l.before.before.before.before in
-    let h = gap_fits _ _ _ _ _ _ s.requires.0 s.requires.1.0.0 s.requires.1.0.1 _ _ _ _ _ _ l.loop.invariant.0 i.loop-test.true _ l.loop.invariant.1 c.if2.false s.requires.1.1.1.0 in let m = s.requires.1.1.1.1 in let z = l.loop.invariant.0.size in omega arith
+    let h = gap_fits _ _ _ _ _ _ c.requires.0 c.requires.1.0.0 c.requires.1.0.1 _ _ _ _ _ _ c.loop-done.invariant.0 c.loop-done-test.true _ c.loop-done.invariant.1 c.if-end-start.false c.requires.1.1.1.0 in let m = c.requires.1.1.1.1 in let z = c.loop-done.invariant.0.size in omega arith
 
-add_to : tie.Need-overflow-add-to invariant_loop decreases_loop
+add_to : tie.Need-overflow_add-to invariant_loop decreases_loop
 add_to c =
-    let i = c.before in let l = i.before in let s = l.before.before.before.before in
-    let h = gap_fits _ _ _ _ _ _ s.requires.0 s.requires.1.0.0 s.requires.1.0.1 _ _ _ _ _ _ l.loop.invariant.0 i.loop-test.true _ l.loop.invariant.1 c.if2.false s.requires.1.1.1.0 in record { fits = omega arith }
+    let h = gap_fits _ _ _ _ _ _ c.requires.0 c.requires.1.0.0 c.requires.1.0.1 _ _ _ _ _ _ c.loop-done.invariant.0 c.loop-done-test.true _ c.loop-done.invariant.1 c.if-end-start.false c.requires.1.1.1.0 in record { fits = omega arith }
 
-add_done : tie.Need-overflow-add-done invariant_loop decreases_loop
+add_done : tie.Need-overflow_add-done invariant_loop decreases_loop
 add_done c =
-    let i = c.before in let l = i.before in let s = l.before.before.before.before in
-    let t = i.loop-test.true in let u = s.ranges.words.fits in record { fits = omega arith }
+    let t = c.loop-done-test.true in let u = c.ranges.words.fits in record { fits = omega arith }
 
-loop_less : tie.Need-loop-smaller invariant_loop decreases_loop
+loop_less : tie.Need-loop-done-smaller invariant_loop decreases_loop
 loop_less c =
-    let t = c.before.loop-test.true in omega arith
+    let t = c.loop-done-test.true in omega arith
 
-loop_again : tie.Need-loop-preserved invariant_loop decreases_loop
+loop_again : tie.Need-loop-done-preserved invariant_loop decreases_loop
 loop_again c =
-    let i = c.before in let l = i.before in let s = l.before.before.before.before in
-    (gap_next _ _ _ _ _ _ s.requires.0 s.requires.1.0.0 s.requires.1.0.1 _ _ _ _ _ _ l.loop.invariant.0 i.loop-test.true _ l.loop.invariant.1 c.if2.false _ _ refl refl, l.loop.invariant.1, l.loop.invariant.2)
+    (gap_next _ _ _ _ _ _ c.requires.0 c.requires.1.0.0 c.requires.1.0.1 _ _ _ _ _ _ c.loop-done.invariant.0 c.loop-done-test.true _ c.loop-done.invariant.1 c.if-end-start.false _ _ refl refl, c.loop-done.invariant.1, c.loop-done.invariant.2)
 
-same_length_2 : tie.Need-same-length-2 invariant_loop decreases_loop
+same_length_2 : tie.Need-shape_of-types invariant_loop decreases_loop
 same_length_2 c =
-    c.before.loop.invariant.0.size
+    c.loop-done.invariant.0.size
 
-returns_2 : tie.Need-returns-2 invariant_loop decreases_loop
-returns_2 c =
-    let l = c.before in (
-      l.loop.invariant.0,
-      (λ z. let m = l.loop.invariant.0.most in let t = c.loop-test.false in omega arith, λ h. let t = c.loop-test.false in absurd (omega arith)),
-    )
+returns_2 : tie.Need-returns invariant_loop decreases_loop
+returns_2 c = (
+  c.loop-done.invariant.0,
+  (λ z. let m = c.loop-done.invariant.0.most in let t = c.loop-done-test.false in omega arith, λ h. let t = c.loop-done-test.false in absurd (omega arith)),
+)
 
 pub write_gap_spec : {M : Type 1} → statement M
 write_gap_spec =
@@ -107,12 +99,12 @@ write_gap_spec =
     decreases_loop
     field_requires
     loop_holds
-    add_if2
-    mul_if2
+    add_start
+    mul_start
     same_length
     returns
     (λ c. search rules)
-    mul_types
+    offset_types
     slice_write_types
     add_to
     add_done
