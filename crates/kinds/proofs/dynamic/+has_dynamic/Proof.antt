@@ -27,10 +27,10 @@ abbrev has_dynamic_below : ℕ → In 1 has-dynamic-kinds.ps
 has_dynamic_below t =
     and 1 has-dynamic-kinds.ps (falls 1 has-dynamic-kinds.ps ◌<◌ μ_has_dynamic t) has-dynamic.Pre
 
-abbrev has_dynamic_Inv_loop : has-dynamic-lts.invariant_loop
+abbrev has_dynamic_Inv_loop : has-dynamic-lts.invariant-loop-c
 has_dynamic_Inv_loop table n used r c₀ c = Seeking table used r c
 
-abbrev has_dynamic_μ_loop : has-dynamic-lts.decreases_loop
+abbrev has_dynamic_μ_loop : has-dynamic-lts.decreases-loop-c
 has_dynamic_μ_loop table n used r c₀ c = keys-left c (key_of table c)
 
 -- src/dynamic.rt:19:8
@@ -40,19 +40,17 @@ has_dynamic_field_requires : (t : ℕ) → has-dynamic-lts.Need-field-requires (
   has_dynamic_below t,
   has-dynamic.Post,
 ) (has_dynamic_at t) has-dynamic.Post has_dynamic_Inv_loop has_dynamic_μ_loop
-has_dynamic_field_requires t c κs = let s = c.before in has_field _ _ _ _ 4 s.requires.1.0 s.requires.1.1.0 s.requires.1.1.1 (omega arith)
+has_dynamic_field_requires t c κs = has_field _ _ _ _ 4 c.requires.1.0 c.requires.1.1.0 c.requires.1.1.1 (omega arith)
 
 -- src/dynamic.rt:20:9
-has_dynamic_returns : (t : ℕ) → has-dynamic-lts.Need-returns (
+has_dynamic_returns : (t : ℕ) → has-dynamic-lts.Need-returns-then-field-ne1 (
   field-reads.Asked,
   field-reads.Learnt,
   has_dynamic_below t,
   has-dynamic.Post,
 ) (has_dynamic_at t) has-dynamic.Post has_dynamic_Inv_loop has_dynamic_μ_loop
 has_dynamic_returns t c =
-    let f = c.before in
-    let s = f.before.before in
-    dynamic_unseen _ _ _ s.requires.1.1.0 s.requires.1.1.1 _ f.field.ensures c.if1.true
+    dynamic_unseen _ _ _ c.requires.1.1.0 c.requires.1.1.1 _ c.field.ensures c.if-field-ne1.true
 
 -- src/dynamic.rt:22:8
 has_dynamic_field_requires_2 : (t : ℕ) → has-dynamic-lts.Need-field-requires-2 (
@@ -62,139 +60,104 @@ has_dynamic_field_requires_2 : (t : ℕ) → has-dynamic-lts.Need-field-requires
   has-dynamic.Post,
 ) (has_dynamic_at t) has-dynamic.Post has_dynamic_Inv_loop has_dynamic_μ_loop
 has_dynamic_field_requires_2 t c κs =
-    let s = c.before.before.before in
-    has_field _ _ _ _ 7 s.requires.1.0 s.requires.1.1.0 s.requires.1.1.1 (omega arith)
+    has_field _ _ _ _ 7 c.requires.1.0 c.requires.1.1.0 c.requires.1.1.1 (omega arith)
 
 -- src/dynamic.rt:23:9
-has_dynamic_returns_2 : (t : ℕ) → has-dynamic-lts.Need-returns-2 (
+has_dynamic_returns_2 : (t : ℕ) → has-dynamic-lts.Need-returns-then-field-ne0 (
   field-reads.Asked,
   field-reads.Learnt,
   has_dynamic_below t,
   has-dynamic.Post,
 ) (has_dynamic_at t) has-dynamic.Post has_dynamic_Inv_loop has_dynamic_μ_loop
 has_dynamic_returns_2 t c =
-    let k = c.before in
-    let e = k.before in
-    let f = e.before in
-    let s = f.before.before in
-    dynamic_here _ _ _ s.requires.1.1.0 s.requires.1.1.1 _ _ f.field.ensures e.if1.false k.field2.ensures c.if2.true
+    dynamic_here _ _ _ c.requires.1.1.0 c.requires.1.1.1 _ _ c.field.ensures c.if-field-ne1.false c.field-2.ensures c.if-field-ne0.true
 
 -- src/dynamic.rt:25:9
-has_dynamic_field_requires_3 : (t : ℕ) → has-dynamic-lts.Need-field-requires-3 (
+has_dynamic_field_requires_3 : (t : ℕ) → has-dynamic-lts.Need-field-c-requires (
   field-reads.Asked,
   field-reads.Learnt,
   has_dynamic_below t,
   has-dynamic.Post,
 ) (has_dynamic_at t) has-dynamic.Post has_dynamic_Inv_loop has_dynamic_μ_loop
 has_dynamic_field_requires_3 t c κs =
-    let s = c.before.before.before.before.before in
-    has_field _ _ _ _ 2 s.requires.1.0 s.requires.1.1.0 s.requires.1.1.1 (omega arith)
+    has_field _ _ _ _ 2 c.requires.1.0 c.requires.1.1.0 c.requires.1.1.1 (omega arith)
 
 -- src/dynamic.rt:26:5
-has_dynamic_loop_holds : (t : ℕ) → has-dynamic-lts.Need-loop-init (
+has_dynamic_loop_holds : (t : ℕ) → has-dynamic-lts.Need-loop-c-init (
   field-reads.Asked,
   field-reads.Learnt,
   has_dynamic_below t,
   has-dynamic.Post,
 ) (has_dynamic_at t) has-dynamic.Post has_dynamic_Inv_loop has_dynamic_μ_loop
 has_dynamic_loop_holds t c =
-    let s = c.before.before.before.before.before.before in
-    seeking_start _ _ _ s.requires.1.1.0 s.requires.1.1.1 _ _ s.requires.1.0 c.field3.ensures
+    seeking_start _ _ _ c.requires.1.1.0 c.requires.1.1.1 _ _ c.requires.1.0 c.field-c.ensures
 
 -- src/dynamic.rt:27:12
-has_dynamic_has_dynamic_requires : (t : ℕ) → has-dynamic-lts.Need-has-dynamic-requires (
+has_dynamic_has_dynamic_requires : (t : ℕ) → has-dynamic-lts.Need-has_dynamic-requires (
   field-reads.Asked,
   field-reads.Learnt,
   has_dynamic_below t,
   has-dynamic.Post,
 ) (has_dynamic_at t) has-dynamic.Post has_dynamic_Inv_loop has_dynamic_μ_loop
 has_dynamic_has_dynamic_requires t c κs =
-    let l = c.before in
-    let s = l.before.before.before.before.before.before.before in
-    let K = tail_kid _ _ _ _ _ l.loop.invariant.tail c.loop-test.true in
-    let q = s.requires.0 in
+    let K = tail_kid _ _ _ _ _ c.loop-c.invariant.tail c.loop-c-test.true in
+    let q = c.requires.0 in
     let a = K.above in
     let b = K.used in
-    (omega arith, (s.requires.1.0, (omega arith, b)))
+    (omega arith, (c.requires.1.0, (omega arith, b)))
 
 -- src/dynamic.rt:28:13
-has_dynamic_returns_3 : (t : ℕ) → has-dynamic-lts.Need-returns-3 (
+has_dynamic_returns_3 : (t : ℕ) → has-dynamic-lts.Need-returns-then-has_dynamic (
   field-reads.Asked,
   field-reads.Learnt,
   has_dynamic_below t,
   has-dynamic.Post,
 ) (has_dynamic_at t) has-dynamic.Post has_dynamic_Inv_loop has_dynamic_μ_loop
 has_dynamic_returns_3 t c =
-    let h = c.before in
-    let i = h.before in
-    let l = i.before in
-    let e = l.before.before in
-    let k = e.before in
-    let d = k.before in
-    let f = d.before in
-    let s = f.before.before in
-    seeking_found _ _ _ s.requires.1.1.0 s.requires.1.1.1 _ l.loop.invariant _ _ _ f.field.ensures d.if1.false k.field2.ensures e.if2.false i.loop-test.true
-    h.has-dynamic.ensures c.if3.true
+    seeking_found _ _ _ c.requires.1.1.0 c.requires.1.1.1 _ c.loop-c.invariant _ _ _ c.field.ensures c.if-field-ne1.false c.field-2.ensures c.if-field-ne0.false c.loop-c-test.true
+    c.has_dynamic.ensures c.if-has_dynamic.true
 
 -- src/dynamic.rt:30:9
-has_dynamic_field_requires_4 : (t : ℕ) → has-dynamic-lts.Need-field-requires-4 (
+has_dynamic_field_requires_4 : (t : ℕ) → has-dynamic-lts.Need-field-c-requires-in-loop-c (
   field-reads.Asked,
   field-reads.Learnt,
   has_dynamic_below t,
   has-dynamic.Post,
 ) (has_dynamic_at t) has-dynamic.Post has_dynamic_Inv_loop has_dynamic_μ_loop
 has_dynamic_field_requires_4 t c κs =
-    let i = c.before.before in
-    let l = i.before in
-    let s = l.before.before.before.before.before.before.before in
-    let K = tail_kid _ _ _ _ _ l.loop.invariant.tail i.loop-test.true in
-    has_field _ _ _ _ 3 s.requires.1.0 (let a = K.above in omega arith) K.used (omega arith)
+    let K = tail_kid _ _ _ _ _ c.loop-c.invariant.tail c.loop-c-test.true in
+    has_field _ _ _ _ 3 c.requires.1.0 (let a = K.above in omega arith) K.used (omega arith)
 
 -- src/dynamic.rt:26:5
-has_dynamic_loop_less : (t : ℕ) → has-dynamic-lts.Need-loop-smaller (
+has_dynamic_loop_less : (t : ℕ) → has-dynamic-lts.Need-loop-c-smaller (
   field-reads.Asked,
   field-reads.Learnt,
   has_dynamic_below t,
   has-dynamic.Post,
 ) (has_dynamic_at t) has-dynamic.Post has_dynamic_Inv_loop has_dynamic_μ_loop
 has_dynamic_loop_less t c =
-    let i = c.before.before.before in
-    let l = i.before in
-    let k = l.before.before.before.before.before.before in
-    let s = k.before in
-    next_less _ _ _ _ _ s.requires.1.0.linked s.requires.1.1.0 s.requires.1.1.1 (tail_kid _ _ _ _ _ l.loop.invariant.tail i.loop-test.true)
-    (key_fits _ k.shared-slice-known.given l.loop.c) c.field4.ensures
+    next_less _ _ _ _ _ c.requires.1.0.linked c.requires.1.1.0 c.requires.1.1.1 (tail_kid _ _ _ _ _ c.loop-c.invariant.tail c.loop-c-test.true)
+    (key_fits _ c.shared_slice_known-1.given c.loop-c.c) c.field-c-in-loop-c.ensures
 
 -- src/dynamic.rt:26:5
-has_dynamic_loop_again : (t : ℕ) → has-dynamic-lts.Need-loop-preserved (
+has_dynamic_loop_again : (t : ℕ) → has-dynamic-lts.Need-loop-c-preserved (
   field-reads.Asked,
   field-reads.Learnt,
   has_dynamic_below t,
   has-dynamic.Post,
 ) (has_dynamic_at t) has-dynamic.Post has_dynamic_Inv_loop has_dynamic_μ_loop
 has_dynamic_loop_again t c =
-    let e = c.before in
-    let h = e.before in
-    let i = h.before in
-    let l = i.before in
-    let s = l.before.before.before.before.before.before.before in
-    seeking_next _ _ _ s.requires.1.1.0 s.requires.1.1.1 _ l.loop.invariant _ _ i.loop-test.true h.has-dynamic.ensures e.if3.false c.field4.ensures
+    seeking_next _ _ _ c.requires.1.1.0 c.requires.1.1.1 _ c.loop-c.invariant _ _ c.loop-c-test.true c.has_dynamic.ensures c.if-has_dynamic.false c.field-c-in-loop-c.ensures
 
 -- src/dynamic.rt:14:1
-has_dynamic_returns_4 : (t : ℕ) → has-dynamic-lts.Need-returns-4 (
+has_dynamic_returns_4 : (t : ℕ) → has-dynamic-lts.Need-returns (
   field-reads.Asked,
   field-reads.Learnt,
   has_dynamic_below t,
   has-dynamic.Post,
 ) (has_dynamic_at t) has-dynamic.Post has_dynamic_Inv_loop has_dynamic_μ_loop
 has_dynamic_returns_4 t c =
-    let l = c.before in
-    let e = l.before.before in
-    let k = e.before in
-    let d = k.before in
-    let f = d.before in
-    let s = f.before.before in
-    seeking_done _ _ _ s.requires.1.1.0 s.requires.1.1.1 _ l.loop.invariant _ _ f.field.ensures d.if1.false k.field2.ensures e.if2.false c.loop-test.false
+    seeking_done _ _ _ c.requires.1.1.0 c.requires.1.1.1 _ c.loop-c.invariant _ _ c.field.ensures c.if-field-ne1.false c.field-2.ensures c.if-field-ne0.false c.loop-c-test.false
 
 pub +has_dynamic_spec : {M : Type 1} → statement M
 +has_dynamic_spec = close μ_has_dynamic λ t. has-dynamic-lts.spec (

@@ -12,38 +12,32 @@ use Rattle.kinds.proofs.ChainLaws.{made_before}
 use Rattle.kinds.proofs.filling.fill.Statement.{statement}
 use Rattle.kinds.proofs.filling.fill.Tie as tie
 
-abbrev invariant_loop : tie.invariant_loop
+abbrev invariant_loop : tie.invariant-loop-i
 invariant_loop table₀ n used words reached₀ prev₀ i₀ table reached prev i =
     Filling (nodes table₀ used) words table reached n i × Before table reached 1 (word_bytes * i) prev
 
-abbrev decreases_loop : tie.decreases_loop
+abbrev decreases_loop : tie.decreases-loop-i
 decreases_loop table₀ n used words reached₀ prev₀ i₀ table reached prev i = words - i
 
-loop_holds : tie.Need-loop-init invariant_loop decreases_loop
-loop_holds c = (filling_start _ _ _ _ c.before.requires.0, before_none _ _ _ _)
+loop_holds : tie.Need-loop-i-init invariant_loop decreases_loop
+loop_holds c = (filling_start _ _ _ _ c.requires.0, before_none _ _ _ _)
 
-create_requires : tie.Need-get-or-create-after-requires invariant_loop decreases_loop
+create_requires : tie.Need-get_or_create_after-made-requires invariant_loop decreases_loop
 create_requires c κs =
-    let i = c.before in
-    let s = i.before.before.before in
-    let I = i.before.loop.invariant in
-    (I.0.shaped, ((omega arith, I.0.shaped.linked.some, s.requires.1.0.1), (filling_room _ _ _ _ _ _ _ _ I.0 i.loop-test.true s.requires.1.1 refl, I.1)))
+    let I = c.loop-i.invariant in
+    (I.0.shaped, ((omega arith, I.0.shaped.linked.some, c.requires.1.0.1), (filling_room _ _ _ _ _ _ _ _ I.0 c.loop-i-test.true c.requires.1.1 refl, I.1)))
 
-loop_again : tie.Need-loop-preserved invariant_loop decreases_loop
+loop_again : tie.Need-loop-i-preserved invariant_loop decreases_loop
 loop_again c =
-    let g = c.before.before in
-    let i = g.before.before in
-    let M = g.get-or-create-after.ensures in
-    (filling_next _ _ _ _ _ _ _ _ _ _ i.before.loop.invariant.0 i.loop-test.true refl M, made_before _ _ _ _ _ _ _ _ _ (omega arith) (omega arith) M)
+    let M = c.get_or_create_after-made.ensures in
+    (filling_next _ _ _ _ _ _ _ _ _ _ c.loop-i.invariant.0 c.loop-i-test.true refl M, made_before _ _ _ _ _ _ _ _ _ (omega arith) (omega arith) M)
 
-same_length : tie.Need-same-length invariant_loop decreases_loop
+same_length : tie.Need-shape_of-table invariant_loop decreases_loop
 same_length c =
-    let l = c.before in
-    let s = l.before.before in
-    l.loop.invariant.0.shaped.size ∙ sym s.requires.0.size
+    c.loop-i.invariant.0.shaped.size ∙ sym c.requires.0.size
 
 returns : tie.Need-returns invariant_loop decreases_loop
-returns c = filling_done _ _ _ _ _ _ _ c.before.loop.invariant.0 c.loop-test.false
+returns c = filling_done _ _ _ _ _ _ _ c.loop-i.invariant.0 c.loop-i-test.false
 
 pub fill_spec : {M : Type 1} → statement M
 fill_spec =

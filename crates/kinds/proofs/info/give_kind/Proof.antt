@@ -6,9 +6,7 @@ use Rattle.kinds.proofs.info.give_kind.Tie as tie
 
 returns : tie.Need-returns
 returns c =
-    let second = c.before.before in
-    let first = second.before.before.before.before in
-    given _ _ _ _ _ _ _ _ first.store.ensures second.store2.ensures
+    given _ _ _ _ _ _ _ _ c.store.ensures c.store-2.ensures
 
 pub give_kind_spec : {M : Type 1} → statement M
 give_kind_spec = tie.close (tie.spec (λ c κs. search rules) (λ c κs. search rules) (λ c. search rules) returns)

@@ -4,14 +4,12 @@ use Rattle.kinds.proofs.KindLaws.{dynamic_root, dynamic_set}
 use Rattle.kinds.proofs.info.set_dynamic.Statement.{statement}
 use Rattle.kinds.proofs.info.set_dynamic.Tie as tie
 
-returns : tie.Need-returns
-returns c = let s = c.before.before in dynamic_root _ _ _ _ _ s.requires.0 c.if1.true
+returns : tie.Need-returns-then-r-eq1
+returns c = dynamic_root _ _ _ _ _ c.requires.0 c.if-r-eq1.true
 
-returns_2 : tie.Need-returns-2
+returns_2 : tie.Need-returns
 returns_2 c =
-    let second = c.before.before in
-    let first = second.before.before.before.before in
-    dynamic_set _ _ _ _ _ _ _ first.before.before.if1.false first.make-seen.ensures second.dynamic-at.ensures
+    dynamic_set _ _ _ _ _ _ _ c.if-r-eq1.false c.make_seen.ensures c.dynamic_at.ensures
 
 pub set_dynamic_spec : {M : Type 1} → statement M
 set_dynamic_spec =
