@@ -7,100 +7,77 @@ use Rattle.operations.proofs.Calls.{clear_asks, array_asks, done, grown, created
 use Rattle.operations.proofs.running.run.Statement.{statement}
 use Rattle.operations.proofs.running.run.Tie as tie
 
-clear_range_hint_requires : tie.Need-clear-range-hint-requires
+clear_range_hint_requires : tie.Need-clear_range_hint-requires
 clear_range_hint_requires c κs =
-    let k = c.before.before in
-    let s = k.before.before.before in
-    clear_asks _ _ _ _ s.requires.0 s.requires.1 _ _ _ k.operation.given.1
+    clear_asks _ _ _ _ c.requires.0 c.requires.1 _ _ _ c.in-ClearRangeHint.is
 
-mark_not_bool_requires : tie.Need-mark-not-bool-requires
+mark_not_bool_requires : tie.Need-mark_not_bool-requires
 mark_not_bool_requires c κs =
-    let k = c.before.before in
-    let s = k.before.before.before in
-    mark_asks _ _ _ _ s.requires.0 s.requires.1 _ _ k.operation2.given.1
+    mark_asks _ _ _ _ c.requires.0 c.requires.1 _ _ c.in-MarkNotBool.is
 
-insert_not_bool_requires : tie.Need-insert-not-bool-requires
+insert_not_bool_requires : tie.Need-insert_not_bool-requires
 insert_not_bool_requires c κs =
-    let k = c.before.before in
-    let s = k.before.before.before in
-    insert_asks _ _ _ _ s.requires.0 s.requires.1 _ _ k.operation3.given.1
+    insert_asks _ _ _ _ c.requires.0 c.requires.1 _ _ c.in-InsertNotBool.is
 
-get_or_create_requires : tie.Need-get-or-create-requires
+get_or_create_requires : tie.Need-get_or_create-requires
 get_or_create_requires c κs =
-    let k = c.before.before in
-    let s = k.before.before.before in
-    create_asks _ _ _ _ s.requires.0 s.requires.1 _ _ k.operation4.given.1
+    create_asks _ _ _ _ c.requires.0 c.requires.1 _ _ c.in-GetOrCreate.is
 
-set_tname_requires : tie.Need-set-tname-requires
+set_tname_requires : tie.Need-set_tname-requires
 set_tname_requires c κs =
-    let k = c.before.before in
-    let s = k.before.before.before in
-    name_asks _ _ _ _ s.requires.0 s.requires.1 _ _ _ _ k.operation5.given.1
+    name_asks _ _ _ _ c.requires.0 c.requires.1 _ _ _ _ c.in-SetTname.is
 
-make_dynamic_requires : tie.Need-make-dynamic-requires
+make_dynamic_requires : tie.Need-make_dynamic-requires
 make_dynamic_requires c κs =
-    let k = c.before.before in
-    let s = k.before.before.before in
-    make_asks _ _ _ _ s.requires.0 s.requires.1 _ _ _ k.operation6.given.1
+    make_asks _ _ _ _ c.requires.0 c.requires.1 _ _ _ c.in-SetDynamic.is
 
-set_array_requires : tie.Need-set-array-requires
+set_array_requires : tie.Need-set_array-requires
 set_array_requires c κs =
-    let k = c.before.before in
-    let s = k.before.before.before in
-    array_asks _ _ _ _ s.requires.0 s.requires.1 _ _ k.operation7.given.1
+    array_asks _ _ _ _ c.requires.0 c.requires.1 _ _ c.in-SetArray.is
 
-returns : tie.Need-returns
+returns : tie.Need-returns-in-Nothing
 unfolding run
 returns c =
-    let s = c.before.before.before in
-    done _ _ _ _ _ c.enum_told.given.1 _ refl _ _ (record { shaped = s.requires.0.0; state = refl })
+    done _ _ _ _ _ c.in-Nothing.is _ refl _ _ (record { shaped = c.requires.0.0; state = refl })
 
-returns_2 : tie.Need-returns-2
+returns_2 : tie.Need-returns-in-ClearRangeHint
 unfolding run
 returns_2 c =
-    let m = c.before.before in
-    done _ _ _ _ _ m.before.before.before.operation.given.1 _ refl _ _ m.clear-range-hint.ensures
+    done _ _ _ _ _ c.in-ClearRangeHint.is _ refl _ _ c.clear_range_hint.ensures
 
-returns_3 : tie.Need-returns-3
+returns_3 : tie.Need-returns-in-ClearRangeHints
 unfolding run
 returns_3 c =
-    let m = c.before.before in
-    done _ _ _ _ _ m.before.before.enum-told2.given.1 _ refl _ _ m.clear-range-hints.ensures
+    done _ _ _ _ _ c.in-ClearRangeHints.is _ refl _ _ c.clear_range_hints.ensures
 
-returns_4 : tie.Need-returns-4
+returns_4 : tie.Need-returns-in-MarkNotBool
 unfolding run
 returns_4 c =
-    let m = c.before.before in
-    grown _ _ _ _ _ m.before.before.before.operation2.given.1 _ refl _ _ m.mark-not-bool.ensures
+    grown _ _ _ _ _ c.in-MarkNotBool.is _ refl _ _ c.mark_not_bool.ensures
 
-returns_5 : tie.Need-returns-5
+returns_5 : tie.Need-returns-in-InsertNotBool
 unfolding run
 returns_5 c =
-    let m = c.before.before in
-    grown _ _ _ _ _ m.before.before.before.operation3.given.1 _ refl _ _ m.insert-not-bool.ensures
+    grown _ _ _ _ _ c.in-InsertNotBool.is _ refl _ _ c.insert_not_bool.ensures
 
-returns_6 : tie.Need-returns-6
+returns_6 : tie.Need-returns-in-GetOrCreate
 unfolding run
 returns_6 c =
-    let m = c.before.before in
-    created _ _ _ _ _ m.before.before.before.operation4.given.1 _ refl _ _ _ m.get-or-create.ensures
+    created _ _ _ _ _ c.in-GetOrCreate.is _ refl _ _ _ c.get_or_create.ensures
 
-returns_7 : tie.Need-returns-7
+returns_7 : tie.Need-returns-in-SetTname
 unfolding run
 returns_7 c =
-    let m = c.before.before in
-    grown _ _ _ _ _ m.before.before.before.operation5.given.1 _ refl _ _ m.set-tname.ensures
+    grown _ _ _ _ _ c.in-SetTname.is _ refl _ _ c.set_tname.ensures
 
-returns_8 : tie.Need-returns-8
+returns_8 : tie.Need-returns-in-SetDynamic
 returns_8 c =
-    let m = c.before.before in
-    done _ _ _ _ _ m.before.before.before.operation6.given.1 _ refl _ _ m.make-dynamic.ensures.0
+    done _ _ _ _ _ c.in-SetDynamic.is _ refl _ _ c.make_dynamic.ensures.0
 
-returns_9 : tie.Need-returns-9
+returns_9 : tie.Need-returns-in-SetArray
 unfolding run
 returns_9 c =
-    let m = c.before.before in
-    done _ _ _ _ _ m.before.before.before.operation7.given.1 _ refl _ _ m.set-array.ensures
+    done _ _ _ _ _ c.in-SetArray.is _ refl _ _ c.set_array.ensures
 
 pub run_spec : {M : Type 1} → statement M
 run_spec =
