@@ -15,7 +15,8 @@ import sys
 root = pathlib.Path(sys.argv[1] if len(sys.argv) > 1 else '.').resolve()
 # lemmas that would fall together with the definition that they speak of
 LEMMAS = '''answer-text copy-fits depth-up entry-line find-in is-followed is-record is-root kids-in kind-array labels-fit
-memory-ones most-levels of-code on-arg path-of rest-bytes revert-at shallow-to sizes-fit spend-to stack-ones'''.split()
+memory-ones most-levels of-code on-arg path-of rest-bytes revert-at shallow-to sizes-fit spend-to stack-ones width-name
+word-codes word-told'''.split()
 TOGETHER = {n: n.replace('-', '_') + '_lem' for n in LEMMAS}
 # the same of lemmas that the port script has turned: they change where a file declares them or brings them in
 TURNED = 'all_codes code_fits fields_fit is_name load_fits no_name'.split()

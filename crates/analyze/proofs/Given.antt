@@ -72,9 +72,9 @@ pub extended_name : (n : ℕ) → n < word_bytes → is_name (code.int + (n + 1)
 extended_name n h = int_name ((n + 1) * 8) (omega arith) (omega arith) (omega arith)
 
 -- a guarded SHR's
-pub width_name : (w : ℕ) → NoneOrName (width_name w)
+pub width_name_lem : (w : ℕ) → NoneOrName (width_name w)
 unfolding width_name
-width_name w = one (eqb w 1) (eqb w address_bits) (between 1 255 w && eqb (w % 8) 0) refl
+width_name_lem w = one (eqb w 1) (eqb w address_bits) (between 1 255 w && eqb (w % 8) 0) refl
   where
     one : (a b c : Bool) → (between 1 255 w && eqb (w % 8) 0) ≡ c
         → NoneOrName (cond a code.bool (cond b code.address (cond c (code.uint + w) code.no_name)))

@@ -32,7 +32,7 @@ use Rattle.analyze.specs.Name.{and, eq_masked, eq_both, eq, zero_tested, is_zero
 use Rattle.analyze.specs.Ready.{LabelReaches, ChoiceReaches, StepReaches}
 use Rattle.analyze.proofs.Reach.{step_choice}
 use Rattle.analyze.proofs.Given.{NoneOrName, uint_name, int_name, bytes_name, bool_name, address_name, mask_name}
-use Rattle.analyze.proofs.Given.{extended_name, width_name}
+use Rattle.analyze.proofs.Given.{extended_name, width_name_lem}
 use Rattle.analyze.proofs.Proper.{Proper, cond_has, cond_given, arg_has, proper_none, proper_stack, proper_mark}
 use Rattle.analyze.proofs.Proper.{proper_name, proper_mark_name, unless_none}
 
@@ -104,7 +104,7 @@ module _ (u : ℕ) (Fits Slot : Type 0) (pick : ℕ) where
         arg_has P u x.second.label _ _ R.second
         (λ v U.
         cond_has P (active && is_place (guard_failure_pc bytes x.pc true)) _ _
-        (proper_name_if v (width_name (value_of x.first.word)) U (width_name (value_of x.first.word))) proper_none)
+        (proper_name_if v (width_name (value_of x.first.word)) U (width_name_lem (value_of x.first.word))) proper_none)
         proper_none
 
     pub proper_signed : P (signed x)

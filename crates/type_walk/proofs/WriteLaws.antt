@@ -116,9 +116,9 @@ unfolding codes code_of
 no_codes s r w e = rw (eq-eqb (find_in s r (word_bytes * w)) 0 (sym e)) refl
 
 -- of one at whose key the record c stands
-word_codes_is : (s : List Node) (r w c : ℕ) → c ≡ find_in s r (word_bytes * w) → (c ≡ 0 → ⊥) → word_codes s r w ≡ codes (word_type s c)
+word_codes_lem : (s : List Node) (r w c : ℕ) → c ≡ find_in s r (word_bytes * w) → (c ≡ 0 → ⊥) → word_codes s r w ≡ codes (word_type s c)
 unfolding word_type
-word_codes_is s r w c e n = rw (ne_eqb (find_in s r (word_bytes * w)) 0 (λ z. n (e ∙ z)), ← e) refl
+word_codes_lem s r w c e n = rw (ne_eqb (find_in s r (word_bytes * w)) 0 (λ z. n (e ∙ z)), ← e) refl
 
 module _ (t : List ℕ) (u r start words : ℕ) (types₀ : List ℕ) (at : ℕ) where
   pub writing_start : (c : ℕ) → Reached t u r (word_bytes * start) c → Writing t u r start words types₀ at types₀ at c 0
@@ -255,7 +255,7 @@ module _ {t : List ℕ} {u N r start words : ℕ} {list : List ℕ} {at : ℕ} {
     here : word_codes (nodes t u) r (start + i) ≡ codes (word_type (nodes t u) c)
     here =
         let Z = sound_shaped t u N T.sound in
-        word_codes_is _ _ _ _ (reached_found t u r linked T.from T.used Z.root_parent _ c T.writing.reached T.some (sym ke ∙ key)).0 T.some
+        word_codes_lem _ _ _ _ (reached_found t u r linked T.from T.used Z.root_parent _ c T.writing.reached T.some (sym ke ∙ key)).0 T.some
 
     pub turn_fits : at + length (all_codes (word_types (nodes t u) r start words)) ≤ types_room → to + length (codes (word_type (nodes t u) c)) ≤ types_room
     turn_fits room = word_fits t u r start words list at types to c i T.writing T.less (codes (word_type (nodes t u) c)) here room
