@@ -6,8 +6,7 @@ use Rattle.arms.proofs.lengths.compares_length.Statement.{statement}
 
 returns : tie.Need-returns
 returns c =
-    let e = c.before in
-    compares_is _ _ _ e.equals-number.ensures c.equals-number2.ensures
+    compares_is _ _ _ c.equals_number.ensures c.equals_number-2.ensures
 
 pub compares_length_spec : {M : Type 1} → statement M
 compares_length_spec =

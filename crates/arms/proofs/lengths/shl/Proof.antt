@@ -14,7 +14,7 @@ shl_spec =
     (λ c κs. search rules)
     (λ c. search (not_arg, arg_reaches, bytes_most, shl_none, shl_root, shl_other, shl_length, rules))
     (λ c κs. search rules)
-    (λ c κs. bytes_most _ _ _ _ c.bytes-shift.ensures)
+    (λ c κs. bytes_most _ _ _ _ c.bytes_shift.ensures)
     (λ c. search (not_arg, arg_reaches, bytes_most, shl_none, shl_root, shl_other, shl_length, rules))
     (λ c κs. search rules)
     (λ c κs. search rules)

@@ -7,5 +7,5 @@ pub is_whole_word_spec : {M : Type 1} → statement M
 is_whole_word_spec =
     tie.close
     (tie.spec
-    (λ c. whole_below _ c.if1.true)
-    (λ c. whole_from _ c.if1.false))
+    (λ c. whole_below _ c.if-added-lt-SELECTOR_BYTES.true)
+    (λ c. whole_from _ c.if-added-lt-SELECTOR_BYTES.false))

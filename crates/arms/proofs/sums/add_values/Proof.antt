@@ -11,5 +11,5 @@ add_values_spec =
     (tie.spec
     (λ c. search rules)
     (λ c. search rules)
-    (λ c. sym (number_kept _ c.if1.true))
-    (λ c. sym (nothing_kept _ c.if1.false)))
+    (λ c. sym (number_kept _ c.if-sum-lt4294967296.true))
+    (λ c. sym (nothing_kept _ c.if-sum-lt4294967296.false)))

@@ -6,10 +6,7 @@ use Rattle.arms.proofs.sums.is_less_one.Statement.{statement}
 
 returns : tie.Need-returns
 returns c =
-    let i = c.before in
-    let l = i.before.before in
-    let s = l.before in
-    less_one_is s.args.val _ _ _ _ _ l.is-length.ensures i.is_zero.ensures c.is-max.ensures
+    less_one_is c.args.val _ _ _ _ _ c.is_length.ensures c.is_zero.ensures c.is_max.ensures
 
 pub is_less_one_spec : {M : Type 1} → statement M
 is_less_one_spec =

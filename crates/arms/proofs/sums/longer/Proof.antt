@@ -4,19 +4,13 @@ use Rattle.arms.proofs.SumLaws.{first_longer, second_wins}
 use Rattle.arms.proofs.sums.longer.Statement.{statement}
 use Rattle.arms.proofs.sums.longer.Tie as tie
 
-returns : tie.Need-returns
+returns : tie.Need-returns-then-depth_of
 returns c =
-    let d = c.before in
-    let e = d.before in
-    let s = e.before.before in
-    first_longer _ s.args.f s.args.g _ _ e.depth-of.ensures d.depth-of2.ensures c.if1.true
+    first_longer _ c.args.f c.args.g _ _ c.depth_of.ensures c.depth_of-2.ensures c.if-depth_of.true
 
-returns_2 : tie.Need-returns-2
+returns_2 : tie.Need-returns
 returns_2 c =
-    let d = c.before in
-    let e = d.before in
-    let s = e.before.before in
-    second_wins _ s.args.f s.args.g _ _ e.depth-of.ensures d.depth-of2.ensures c.if1.false
+    second_wins _ c.args.f c.args.g _ _ c.depth_of.ensures c.depth_of-2.ensures c.if-depth_of.false
 
 pub longer_spec : {M : Type 1} → statement M
 longer_spec =
