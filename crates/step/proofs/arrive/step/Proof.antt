@@ -7,13 +7,11 @@ use Rattle.step.proofs.arrive.step.Tie as tie
 
 judge_requires : tie.Need-judge-requires
 judge_requires c κs =
-    let m = c.before.before.before.before in
-    records_so _ _ m.before.before.records-of.ensures _ m.admitted.given.1
+    records_so _ _ c.records_of-admitted.ensures _ c.in-Records.is
 
-returns_2 : tie.Need-returns-2
+returns_2 : tie.Need-returns-in-Refused
 returns_2 c =
-    let m = c.before in
-    not_admitted _ _ _ _ m.before.before.records-of.ensures _ m.admitted2.given.1
+    not_admitted _ _ _ _ c.records_of-admitted.ensures _ c.in-Refused.is
 
 pub step_spec : {M : Type 1} → statement M
 step_spec =

@@ -6,60 +6,48 @@ use Rattle.step.proofs.Refusing.{no_slot, has_passed}
 use Rattle.step.proofs.deciding.decide.Statement.{statement}
 use Rattle.step.proofs.deciding.decide.Tie as tie
 
-returns : tie.Need-returns
-returns c = let s = c.before.before.before.before.before.before in long_code _ _ _ _ _ _ _ s.requires c.if1.true
+returns : tie.Need-returns-then-code-gt-CODE_MAX
+returns c = long_code _ _ _ _ _ _ _ c.requires c.if-code-gt-CODE_MAX.true
 
-returns_2 : tie.Need-returns-2
+returns_2 : tie.Need-returns-then-not-sizes_fit
 returns_2 c =
-    let f = c.before in let e1 = f.before in let s = e1.before.before.before.before.before.before in
-    broken_sizes _ _ _ _ _ _ _ s.requires e1.if1.false _ f.sizes-fit.ensures c.if2.true
+    broken_sizes _ _ _ _ _ _ _ c.requires c.if-code-gt-CODE_MAX.false _ c.sizes_fit.ensures c.if-not-sizes_fit.true-raw
 
-labels_fit_requires : tie.Need-labels-fit-requires
-labels_fit_requires c κs = let f = c.before in fit_width _ _ _ (yes _ _ f.sizes-fit.ensures c.if2.false)
+labels_fit_requires : tie.Need-labels_fit-requires
+labels_fit_requires c κs = fit_width _ _ _ (yes _ _ c.sizes_fit.ensures c.if-not-sizes_fit.false-raw)
 
-returns_3 : tie.Need-returns-3
+returns_3 : tie.Need-returns-then-not-labels_fit
 returns_3 c =
-    let g = c.before in let e2 = g.before in let f = e2.before in let e1 = f.before in let s = e1.before.before.before.before.before.before in
-    broken_labels _ _ _ _ _ _ _ s.requires e1.if1.false _ f.sizes-fit.ensures e2.if2.false _ g.labels-fit.ensures
-    c.if3.true
+    broken_labels _ _ _ _ _ _ _ c.requires c.if-code-gt-CODE_MAX.false _ c.sizes_fit.ensures c.if-not-sizes_fit.false-raw _ c.labels_fit.ensures
+    c.if-not-labels_fit.true-raw
 
-fields_fit_requires : tie.Need-fields-fit-requires
+fields_fit_requires : tie.Need-fields_fit-requires
 fields_fit_requires c κs =
-    let e2 = c.before.before in let f = e2.before in fit_width _ _ _ (yes _ _ f.sizes-fit.ensures e2.if2.false)
+    fit_width _ _ _ (yes _ _ c.sizes_fit.ensures c.if-not-sizes_fit.false-raw)
 
-returns_4 : tie.Need-returns-4
+returns_4 : tie.Need-returns-then-not-fields_fit
 returns_4 c =
-    let h = c.before in let e3 = h.before in
-    let g = e3.before in let e2 = g.before in let f = e2.before in let e1 = f.before in let s = e1.before.before.before.before.before.before in
-    broken_fields _ _ _ _ _ _ _ s.requires e1.if1.false _ f.sizes-fit.ensures e2.if2.false _ g.labels-fit.ensures
-    e3.if3.false _ h.fields_fit.ensures c.if4.true
+    broken_fields _ _ _ _ _ _ _ c.requires c.if-code-gt-CODE_MAX.false _ c.sizes_fit.ensures c.if-not-sizes_fit.false-raw _ c.labels_fit.ensures
+    c.if-not-labels_fit.false-raw _ c.fields_fit.ensures c.if-not-fields_fit.true-raw
 
-shared_slice_read_slot_there : tie.Need-shared-slice-read-slot-there
+shared_slice_read_slot_there : tie.Need-bounds-numbers-0
 shared_slice_read_slot_there c =
-    let e4 = c.before in let e3 = e4.before.before in
-    let e2 = e3.before.before in let f = e2.before in
-    let w = fit_width _ _ _ (yes _ _ f.sizes-fit.ensures e2.if2.false) in omega arith
+    let w = fit_width _ _ _ (yes _ _ c.sizes_fit.ensures c.if-not-sizes_fit.false-raw) in omega arith
 
-cast_slot_there : tie.Need-overflow-cast-slot-there
+cast_slot_there : tie.Need-overflow_cast-numbers
 cast_slot_there c =
     let e4 = c.before in let h = e4.before in
-    let w = fit_op _ _ (yes _ _ h.fields_fit.ensures e4.if4.false) in omega arith
+    let w = fit_op _ _ (yes _ _ h.fields_fit.ensures e4.if-not-fields_fit.false-raw) in omega arith
 
-returns_5 : tie.Need-returns-5
+returns_5 : tie.Need-returns-then-not-slot_there
 returns_5 c =
-    let k = c.before in let e4 = k.before.before in
-    let h = e4.before in let e3 = h.before in
-    let g = e3.before in let e2 = g.before in let f = e2.before in let e1 = f.before in let s = e1.before.before.before.before.before.before in
-    no_slot _ _ _ _ _ _ _ s.requires e1.if1.false _ f.sizes-fit.ensures e2.if2.false _ g.labels-fit.ensures
-    e3.if3.false _ h.fields_fit.ensures e4.if4.false _ k.slot-there.ensures c.if5.true
+    no_slot _ _ _ _ _ _ _ c.requires c.if-code-gt-CODE_MAX.false _ c.sizes_fit.ensures c.if-not-sizes_fit.false-raw _ c.labels_fit.ensures
+    c.if-not-labels_fit.false-raw _ c.fields_fit.ensures c.if-not-fields_fit.false-raw _ c.slot_there.ensures c.if-not-slot_there.true-raw
 
-plan_step_requires : tie.Need-plan-step-requires
+plan_step_requires : tie.Need-plan_step-requires
 plan_step_requires c κs =
-    let k = c.before in let e4 = k.before.before in
-    let h = e4.before in let e3 = h.before in
-    let g = e3.before in let e2 = g.before in let f = e2.before in let e1 = f.before in let s = e1.before.before.before.before.before.before in
-    has_passed _ _ _ _ _ _ _ s.requires e1.if1.false _ f.sizes-fit.ensures e2.if2.false _ g.labels-fit.ensures
-    e3.if3.false _ h.fields_fit.ensures e4.if4.false _ k.slot-there.ensures c.if5.false
+    has_passed _ _ _ _ _ _ _ c.requires c.if-code-gt-CODE_MAX.false _ c.sizes_fit.ensures c.if-not-sizes_fit.false-raw _ c.labels_fit.ensures
+    c.if-not-labels_fit.false-raw _ c.fields_fit.ensures c.if-not-fields_fit.false-raw _ c.slot_there.ensures c.if-not-slot_there.false-raw
 
 pub decide_spec : {M : Type 1} → statement M
 decide_spec =

@@ -4,36 +4,24 @@ use Rattle.step.proofs.Planning.{read_asks, plan_asks, room_asks, no_room, accep
 use Rattle.step.proofs.deciding.plan_step.Statement.{statement}
 use Rattle.step.proofs.deciding.plan_step.Tie as tie
 
-read_step_requires : tie.Need-read-step-requires
-read_step_requires c κs = let s = c.before.before.before.before.before.before in read_asks _ _ _ _ _ _ _ s.requires
+read_step_requires : tie.Need-read_step-step-requires
+read_step_requires c κs = read_asks _ _ _ _ _ _ _ c.requires
 
-plan_of_requires : tie.Need-plan-of-requires
-plan_of_requires c κs = let s = c.before.before.before.before.before.before.before in plan_asks _ _ _ _ _ _ _ s.requires _ c.Read-step.ensures
+plan_of_requires : tie.Need-plan_of-plan-requires
+plan_of_requires c κs = plan_asks _ _ _ _ _ _ _ c.requires _ c.read_step-step.ensures
 
-has_room_requires : tie.Need-has-room-requires
+has_room_requires : tie.Need-has_room-requires
 has_room_requires c κs =
-    let r = c.before in
-    let s = r.before.before.before.before.before.before.before in
-    room_asks _ _ _ _ _ _ _ s.requires _ r.Read-step.ensures _ c.plan-of.ensures
+    room_asks _ _ _ _ _ _ _ c.requires _ c.before.read_step-step.ensures _ c.plan_of-plan.ensures
 
-returns : tie.Need-returns
+returns : tie.Need-returns-then-not-has_room
 returns c =
-    let h = c.before in
-    let p = h.before in
-    let r = p.before in
-    let s = r.before.before.before.before.before.before.before in
-    no_room _ _ _ _ _ _ _ s.requires _ r.Read-step.ensures _ p.plan-of.ensures _ h.has_room.ensures c.if1.true
+    no_room _ _ _ _ _ _ _ c.requires _ c.before.before.before.read_step-step.ensures _ c.plan_of-plan.ensures _ c.has_room.ensures c.if-not-has_room.true-raw
 
-returns_2 : tie.Need-returns-2
+returns_2 : tie.Need-returns
 returns_2 c =
-    let i = c.before in
-    let e = i.before in
-    let h = e.before in
-    let p = h.before in
-    let r = p.before in
-    let s = r.before.before.before.before.before.before.before in
-    accepted _ _ _ _ _ _ _ s.requires _ r.Read-step.ensures _ p.plan-of.ensures _ h.has_room.ensures e.if1.false _
-    i.hints-of.ensures _ c.ends-decoder.ensures
+    accepted _ _ _ _ _ _ _ c.requires _ c.before.before.before.before.before.read_step-step.ensures _ c.plan_of-plan.ensures _ c.has_room.ensures c.if-not-has_room.false-raw _
+    c.hints_of.ensures _ c.ends_decoder.ensures
 
 pub plan_step_spec : {M : Type 1} → statement M
 plan_step_spec =

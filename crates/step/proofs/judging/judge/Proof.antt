@@ -6,15 +6,11 @@ use Rattle.step.proofs.judging.judge.Tie as tie
 
 take_requires : tie.Need-take-requires
 take_requires c κs =
-    let d = c.before.before.before.before in
-    let m = d.before.before in
-    accepts_so _ _ _ _ _ m.decide.ensures _ d.decision.given.1
+    accepts_so _ _ _ _ _ c.decide-decision.ensures _ c.in-Accepted.is
 
-returns_2 : tie.Need-returns-2
+returns_2 : tie.Need-returns-in-Refused
 returns_2 c =
-    let d = c.before in
-    let m = d.before.before in
-    refuses_so _ _ _ _ _ m.decide.ensures _ d.decision2.given.1
+    refuses_so _ _ _ _ _ c.decide-decision.ensures _ c.in-Refused.is
 
 pub judge_spec : {M : Type 1} → statement M
 judge_spec =

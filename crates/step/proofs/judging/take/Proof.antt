@@ -4,36 +4,25 @@ use Rattle.step.proofs.Taking.{hints_asks, plan_asks, stack_asks, memory_asks, t
 use Rattle.step.proofs.judging.take.Statement.{statement}
 use Rattle.step.proofs.judging.take.Tie as tie
 
-run_hints_requires : tie.Need-run-hints-requires
-run_hints_requires c κs = let s = c.before.before.before.before.before.before.before.before in hints_asks _ _ _ _ _ _ _ s.args.planned s.requires
+run_hints_requires : tie.Need-run_hints-hinted-requires
+run_hints_requires c κs = hints_asks _ _ _ _ _ _ _ c.args.planned c.requires
 
-run_plan_requires : tie.Need-run-plan-requires
+run_plan_requires : tie.Need-run_plan-ran-requires
 run_plan_requires c κs =
-    let h = c.before.before.before in
-    let s = h.before.before.before.before.before.before.before.before.before in
-    plan_asks _ _ _ _ _ _ _ s.args.planned s.requires _ _ h.run-hints.ensures
+    plan_asks _ _ _ _ _ _ _ c.args.planned c.requires _ _ c.run_hints-hinted.ensures
 
-write_stack_requires : tie.Need-write-stack-requires
+write_stack_requires : tie.Need-write_stack-requires
 write_stack_requires c κs =
-    let h = c.before.before.before.before.before.before.before in
-    let s = h.before.before.before.before.before.before.before.before.before in
-    stack_asks _ _ _ _ _ _ _ s.args.planned s.requires _ _ h.run-hints.ensures
+    stack_asks _ _ _ _ _ _ _ c.args.planned c.requires _ _ c.run_hints-hinted.ensures
 
-write_memory_requires : tie.Need-write-memory-requires
+write_memory_requires : tie.Need-write_memory-requires
 write_memory_requires c κs =
-    let h = c.before.before.before.before.before.before.before.before.before.before.before in
-    let s = h.before.before.before.before.before.before.before.before.before in
-    memory_asks _ _ _ _ _ _ _ s.args.planned s.requires _ _ h.run-hints.ensures
+    memory_asks _ _ _ _ _ _ _ c.args.planned c.requires _ _ c.run_hints-hinted.ensures
 
 returns : tie.Need-returns
 returns c =
-    let m = c.before.before.before in
-    let w = m.before.before.before.before in
-    let p = w.before.before.before.before in
-    let h = p.before.before.before.before in
-    let s = h.before.before.before.before.before.before.before.before.before in
-    taken _ _ _ _ _ _ _ s.args.planned s.requires _ _ h.run-hints.ensures _ _ p.run-plan.ensures _ _ _
-    w.write-stack.ensures m.write-memory.ensures c.flag.ensures
+    taken _ _ _ _ _ _ _ c.args.planned c.requires _ _ c.run_hints-hinted.ensures _ _ c.run_plan-ran.ensures _ _ _
+    c.write_stack.ensures c.write_memory.ensures c.flag.ensures
 
 pub take_spec : {M : Type 1} → statement M
 take_spec =

@@ -11,7 +11,7 @@ fields_fit_spec =
     (tie.spec
     (λ c. search rules)
     (λ c. search rules)
-    (λ c. omega (arith, c.shared-slice-known4.given 44))
+    (λ c. omega (arith, c.shared_slice_known-4-1.given 44))
     (λ c. search rules)
     (λ c. search rules)
     (λ c κs. search rules)

@@ -4,11 +4,9 @@ use Rattle.step.proofs.Turns.{dynamic_asks, ran_other, ran_dynamic}
 use Rattle.step.proofs.running.run_first.Statement.{statement}
 use Rattle.step.proofs.running.run_first.Tie as tie
 
-make_dynamic_requires : tie.Need-make-dynamic-requires
+make_dynamic_requires : tie.Need-make_dynamic-requires
 make_dynamic_requires c κs =
-    let o = c.before.before in
-    let s = o.before.before.before in
-    dynamic_asks _ _ _ _ _ _ _ o.operation.given.1 s.requires.0.0 s.requires.0.1 s.requires.1
+    dynamic_asks _ _ _ _ _ _ _ c.in-SetDynamic.is c.requires.0.0 c.requires.0.1 c.requires.1
 
 pub run_first_spec : {M : Type 1} → statement M
 run_first_spec =

@@ -6,52 +6,40 @@ use Rattle.step.proofs.Turns.{plan_ran}
 use Rattle.step.proofs.running.run_plan.Statement.{statement}
 use Rattle.step.proofs.running.run_plan.Tie as tie
 
-run_first_requires : tie.Need-run-first-requires
+run_first_requires : tie.Need-run_first-made-requires
 run_first_requires c κs =
-    let s = c.before.before in
-    first_asks _ _ _ _ _ (plan_turn _ _ _ s.args.plan s.requires.0.0 s.requires.0.1 s.requires.1)
+    first_asks _ _ _ _ _ (plan_turn _ _ _ c.args.plan c.requires.0.0 c.requires.0.1 c.requires.1)
 
-run_requires : tie.Need-run-requires
+run_requires : tie.Need-run-reached-requires
 run_requires c κs =
-    let f = c.before.before.before in
-    let s = f.before.before.before in
-    let T = plan_turn _ _ _ s.args.plan s.requires.0.0 s.requires.0.1 s.requires.1 in
-    turn_asks _ _ _ _ _ (turn_next _ _ _ _ _ T _ _ f.run-first.ensures.holds)
+    let T = plan_turn _ _ _ c.args.plan c.requires.0.0 c.requires.0.1 c.requires.1 in
+    turn_asks _ _ _ _ _ (turn_next _ _ _ _ _ T _ _ c.run_first-made.ensures.holds)
 
-run_requires_2 : tie.Need-run-requires-2
+run_requires_2 : tie.Need-run-used-requires
 run_requires_2 c κs =
-    let g = c.before.before.before in
-    let f = g.before.before.before.before in
-    let s = f.before.before.before in
-    let T = plan_turn _ _ _ s.args.plan s.requires.0.0 s.requires.0.1 s.requires.1 in
-    let U = turn_next _ _ _ _ _ T _ _ f.run-first.ensures.holds in
-    turn_asks _ _ _ _ _ (turn_next _ _ _ _ _ U _ _ g.run.ensures)
+    let T = plan_turn _ _ _ c.args.plan c.requires.0.0 c.requires.0.1 c.requires.1 in
+    let U = turn_next _ _ _ _ _ T _ _ c.run_first-made.ensures.holds in
+    turn_asks _ _ _ _ _ (turn_next _ _ _ _ _ U _ _ c.run-reached.ensures)
 
-is_array_requires : tie.Need-is-array-requires
+is_array_requires : tie.Need-is_array-array-requires
 is_array_requires c κs =
-    let h = c.before.before.before in
-    let g = h.before.before.before.before in
-    let f = g.before.before.before.before in
-    let s = f.before.before.before in
+    let s = c.before.before.before.before.before.before.before.before.before.before.before.before.before in
     let T = plan_turn _ _ _ s.args.plan s.requires.0.0 s.requires.0.1 s.requires.1 in
-    let U = turn_next _ _ _ _ _ T _ _ f.run-first.ensures.holds in
-    let W = turn_next _ _ _ _ _ U _ _ g.run.ensures in
-    let a = turn_grows _ _ _ _ _ U _ _ g.run.ensures in
-    let b = turn_grows _ _ _ _ _ W _ _ h.run2.ensures in
-    let w = f.run-first.ensures.within in
-    ((turn_next _ _ _ _ _ W _ _ h.run2.ensures).ready, omega (arith, a, b, w))
+    let U = turn_next _ _ _ _ _ T _ _ c.run_first-made.ensures.holds in
+    let W = turn_next _ _ _ _ _ U _ _ c.run-reached.ensures in
+    let a = turn_grows _ _ _ _ _ U _ _ c.run-reached.ensures in
+    let b = turn_grows _ _ _ _ _ W _ _ c.run-used.ensures in
+    let w = c.run_first-made.ensures.within in
+    ((turn_next _ _ _ _ _ W _ _ c.before.before.run-used.ensures).ready, omega (arith, a, b, w))
 
 returns : tie.Need-returns
 returns c =
-    let h = c.before.before.before.before in
-    let g = h.before.before.before.before in
-    let f = g.before.before.before.before in
-    let s = f.before.before.before in
+    let s = c.before.before.before.before.before.before.before.before.before.before.before.before.before.before in
     let T = plan_turn _ _ _ s.args.plan s.requires.0.0 s.requires.0.1 s.requires.1 in
-    let U = turn_next _ _ _ _ _ T _ _ f.run-first.ensures.holds in
-    let last = last_done _ _ _ _ _ _ h.run2.ensures in
-    let H = turn_done _ _ _ _ _ T _ _ f.run-first.ensures.holds _ _ (turn_done _ _ _ _ _ U _ _ g.run.ensures _ _ last) in
-    plan_ran _ _ _ _ s.args.plan _ _ _ H f.run-first.ensures.path c.is-array.ensures
+    let U = turn_next _ _ _ _ _ T _ _ c.run_first-made.ensures.holds in
+    let last = last_done _ _ _ _ _ _ c.run-used.ensures in
+    let H = turn_done _ _ _ _ _ T _ _ c.run_first-made.ensures.holds _ _ (turn_done _ _ _ _ _ U _ _ c.run-reached.ensures _ _ last) in
+    plan_ran _ _ _ _ s.args.plan _ _ _ H c.run_first-made.ensures.path c.is_array-array.ensures
 
 pub run_plan_spec : {M : Type 1} → statement M
 run_plan_spec =

@@ -9,10 +9,7 @@ use Rattle.step.proofs.writing.put_ones.Tie as tie
 
 returns : tie.Need-returns
 returns c =
-    let l = c.before.before in
-    let w = l.before.before.before.before in
-    let s = w.before.before.before in
-    after (λ (x : List ℕ). with_top_word x s.args.word) _ _ _ w.stack-ones.ensures l.put-top-word.ensures
+    after (λ (x : List ℕ). with_top_word x c.args.word) _ _ _ c.stack_ones.ensures c.put_top_word.ensures
 
 pub put_ones_spec : {M : Type 1} → statement M
 put_ones_spec = tie.close (tie.spec (λ c κs. search rules) (λ c κs. search rules) (λ c. search rules) returns)

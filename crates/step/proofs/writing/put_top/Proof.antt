@@ -9,10 +9,7 @@ use Rattle.step.proofs.writing.put_top.Tie as tie
 
 returns : tie.Need-returns
 returns c =
-    let l = c.before.before in
-    let w = l.before.before.before.before in
-    let s = w.before.before.before in
-    after (λ (x : List ℕ). with_top_label x s.args.label) _ _ _ w.put-top-word.ensures l.put-top-label.ensures
+    after (λ (x : List ℕ). with_top_label x c.args.label) _ _ _ c.put_top_word.ensures c.put_top_label.ensures
 
 pub put_top_spec : {M : Type 1} → statement M
 put_top_spec = tie.close (tie.spec (λ c κs. search rules) (λ c κs. search rules) (λ c. search rules) returns)
