@@ -59,8 +59,8 @@ module _ (s : List Node) (bare : Bool) (types : List ℕ) (L : bare ≡ is_empty
 
     module _ (left : ℕ) (z : b ≡ Left left) where
       -- not over, so that the last word is told
-      pub word_told : (w : ℕ) → w ≡ word_told b (last_word s 1) → w ≡ last_word s 1
-      word_told w q = q ∙ ap (λ (x : Budget). word_told x (last_word s 1)) z
+      pub word_told_lem : (w : ℕ) → w ≡ word_told b (last_word s 1) → w ≡ last_word s 1
+      word_told_lem w q = q ∙ ap (λ (x : Budget). word_told x (last_word s 1)) z
 
       fits : fits_budget s ≡ true
       fits = sym fits_is ∙ ap is_left z

@@ -8,16 +8,14 @@ use Rattle.closing.proofs.arrive.close.Tie as tie
 
 judge_requires : tie.Need-judge-requires
 judge_requires c κs =
-    let m = c.before.before.before in
-    records_so _ _ m.before.before.records-of.ensures _ m.admitted.given.1
+    records_so _ _ c.records_of-admitted.ensures _ c.in-Records.is
 
-returns_2 : tie.Need-returns-2
+returns_2 : tie.Need-returns-in-Refused
 returns_2 c =
-    let m = c.before in
-    let s = m.before.before.before.before.before.before.before in
+    let s = c.before.before.before.before.before in
     not_admitted _ _ (hand s.args.code.now s.args.start s.args.packed) _
-    m.before.before.records-of.ensures _
-    m.admitted2.given.1
+    c.records_of-admitted.ensures _
+    c.in-Refused.is
 
 pub close_spec : {M : Type 1} → statement M
 close_spec =

@@ -10,68 +10,61 @@ use Rattle.closing.proofs.arrive.judge.Tie as tie
 abbrev given : tie.Start → Handed
 given s = hand s.args.code.now s.args.start s.args.packed
 
-returns : tie.Need-returns
-returns c = let s = c.before.before.before.before in long_code _ _ _ _ (given s) s.requires c.if1.true
+returns : tie.Need-returns-then-code-gt-CODE_MAX
+returns c = let s = c.before.before.before.before in long_code _ _ _ _ (given s) s.requires c.if-code-gt-CODE_MAX.true
 
-returns_2 : tie.Need-returns-2
+returns_2 : tie.Need-returns-then-types-lt-TYPES_ROOM
 returns_2 c =
-    let e1 = c.before in let s = e1.before.before.before.before in
-    short_types _ _ _ _ (given s) s.requires e1.if1.false c.if2.true
+    let s = c.before.before.before.before.before in
+    short_types _ _ _ _ (given s) s.requires c.if-code-gt-CODE_MAX.false c.if-types-lt-TYPES_ROOM.true
 
-fill_words_requires : tie.Need-fill-words-requires
+fill_words_requires : tie.Need-fill_words-words-requires
 fill_words_requires c κs =
-    let s = c.before.before.before.before.before.before in
+    let s = c.before.before.before.before.before in
     sound_shaped _ _ _ (admitted_sound _ _ s.requires)
 
-sub_if3 : tie.Need-overflow-sub-if3
-sub_if3 c =
-    let s = c.before.before.before.before.before.before.before.before in (admitted_sound _ _ s.requires).most
+sub_n : tie.Need-overflow_sub-n
+sub_n c =
+    let s = c.before.before.before.before.before.before.before in (admitted_sound _ _ s.requires).most
 
-fill_missing_requires : tie.Need-fill-missing-requires
+fill_missing_requires : tie.Need-fill_missing-requires
 fill_missing_requires c κs =
-    let w = c.before.before in
-    let s = w.before.before.before.before.before.before.before in
-    (sound_shaped _ _ _ (admitted_sound _ _ s.requires), w.fill-words.ensures.1)
+    let s = c.before.before.before.before.before.before.before in
+    (sound_shaped _ _ _ (admitted_sound _ _ s.requires), c.fill_words-words.ensures.1)
 
-returns_3 : tie.Need-returns-3
+returns_3 : tie.Need-returns-then-n-head
 returns_3 c =
-    let m = c.before in let w = m.before.before.before in let e2 = w.before.before in
-    let e1 = e2.before in let s = e1.before.before.before.before in
-    no_room _ _ _ _ (given s) s.requires e1.if1.false e2.if2.false _ _ w.fill-words.ensures.0
-    m.fill-missing.ensures.0 c.if3.true
+    let s = c.before.before.before.before.before.before.before.before.before in
+    no_room _ _ _ _ (given s) s.requires c.if-code-gt-CODE_MAX.false c.if-types-lt-TYPES_ROOM.false _ _ c.fill_words-words.ensures.0
+    c.fill_missing.ensures.0 c.if-n-head.true
 
-fill_requires : tie.Need-fill-requires
+fill_requires : tie.Need-fill-used-requires
 fill_requires c κs =
-    let e3 = c.before in let m = e3.before in let w = m.before.before.before in let e2 = w.before.before in
-    let e1 = e2.before in let s = e1.before.before.before.before in (
+    let s = c.before.before.before.before.before.before.before.before.before.before in (
       sound_shaped _ _ _ (admitted_sound _ _ s.requires),
       (
-        (w.fill-words.ensures.1, (admitted_count _ _ s.requires).most),
-        room_left _ _ _ s.args.types.now (given s) s.requires e1.if1.false e2.if2.false _ _
-            w.fill-words.ensures.0
-            m.fill-missing.ensures.0 e3.if3.false,
+        (c.fill_words-words.ensures.1, (admitted_count _ _ s.requires).most),
+        room_left _ _ _ s.args.types.now (given s) s.requires c.if-code-gt-CODE_MAX.false c.if-types-lt-TYPES_ROOM.false _ _
+            c.fill_words-words.ensures.0
+            c.fill_missing.ensures.0 c.if-n-head.false,
       ),
     )
 
-answer_requires : tie.Need-answer-requires
+answer_requires : tie.Need-answer-said-requires
 answer_requires c κs =
-    let f = c.before.before.before.before in let e3 = f.before.before in
-    let m = e3.before in let w = m.before.before.before in let e2 = w.before.before in
-    let e1 = e2.before in let s = e1.before.before.before.before in (
-      sound_filled _ _ _ s.args.types.now (given s) s.requires e1.if1.false e2.if2.false _ _
-          w.fill-words.ensures.0
-          m.fill-missing.ensures.0 e3.if3.false _ _ f.fill.ensures.0,
-      e2.if2.false,
+    let s = c.before.before.before.before.before.before.before.before.before.before.before.before.before.before in (
+      sound_filled _ _ _ s.args.types.now (given s) s.requires c.if-code-gt-CODE_MAX.false c.if-types-lt-TYPES_ROOM.false _ _
+          c.fill_words-words.ensures.0
+          c.fill_missing.ensures.0 c.if-n-head.false _ _ c.fill-used.ensures.0,
+      c.if-types-lt-TYPES_ROOM.false,
     )
 
-returns_4 : tie.Need-returns-4
+returns_4 : tie.Need-returns
 returns_4 c =
-    let a = c.before.before in let f = a.before.before.before.before.before in let e3 = f.before.before in
-    let m = e3.before in let w = m.before.before.before in let e2 = w.before.before in
-    let e1 = e2.before in let s = e1.before.before.before.before in
-    answered _ _ _ _ (given s) s.requires e1.if1.false e2.if2.false _ _ w.fill-words.ensures.0
-    m.fill-missing.ensures.0 e3.if3.false _ _ f.fill.ensures.0 _ _ a.answer.ensures.0
-    a.answer.ensures.1
+    let s = c.before.before.before.before.before.before.before.before.before.before.before.before.before.before.before.before.before in
+    answered _ _ _ _ (given s) s.requires c.if-code-gt-CODE_MAX.false c.if-types-lt-TYPES_ROOM.false _ _ c.fill_words-words.ensures.0
+    c.fill_missing.ensures.0 c.if-n-head.false _ _ c.fill-used.ensures.0 _ _ c.answer-said.ensures.0
+    c.answer-said.ensures.1
 
 pub judge_spec : {M : Type 1} → statement M
 judge_spec =
@@ -80,7 +73,7 @@ judge_spec =
     returns
     returns_2
     fill_words_requires
-    sub_if3
+    sub_n
     fill_missing_requires
     (λ c. search rules)
     returns_3

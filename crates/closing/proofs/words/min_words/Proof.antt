@@ -4,11 +4,11 @@ use borrow.Author.Rules.{rules}
 use Rattle.closing.proofs.words.min_words.Statement.{statement}
 use Rattle.closing.proofs.words.min_words.Tie as tie
 
-returns : tie.Need-returns
-returns c = min_direct (record { code = c.before.before.before.before.before.args.code.now; start = c.before.before.before.before.before.args.start; packed = c.before.before.before.before.before.args.packed }) _ c.before.before.before.packed-words.ensures _ c.before.enum_told.given.1 c.direct-min-calldata-words.ensures
+returns : tie.Need-returns-in_default
+returns c = min_direct (record { code = c.args.code.now; start = c.args.start; packed = c.args.packed }) _ c.packed_words.ensures _ c.in_default.is c.direct_min_calldata_words.ensures
 
-returns_2 : tie.Need-returns-2
-returns_2 c = min_packed (record { code = c.before.before.before.before.before.args.code.now; start = c.before.before.before.before.before.args.start; packed = c.before.before.before.before.before.args.packed }) _ c.before.before.before.packed-words.ensures _ c.before.words.given.1
+returns_2 : tie.Need-returns
+returns_2 c = min_packed (record { code = c.args.code.now; start = c.args.start; packed = c.args.packed }) _ c.packed_words.ensures _ c.in-Count.is
 
 pub min_words_spec : {M : Type 1} → statement M
 min_words_spec =
