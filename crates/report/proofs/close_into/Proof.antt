@@ -6,8 +6,8 @@ use Rattle.report.proofs.close_into.Tie as tie
 
 returns : tie.Need-returns
 returns c =
-    let o = c.before.before.before.before.before.before.before.before.before.before.run-close.ensures in
-    let said = c.before.before.put-answer.ensures in
+    let o = c.run_close-closed.ensures in
+    let said = c.put_answer-length.ensures in
     (record { verdict = _; outcome = o; stored = outcome_text _ _ _ _ _ _ _ _ _ o said.0 }, said.1)
 
 pub close_into_spec : {M : Type 1} → statement M

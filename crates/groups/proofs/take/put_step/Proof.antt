@@ -7,13 +7,8 @@ use Rattle.groups.proofs.take.put_step.Tie as tie
 
 returns : tie.Need-returns
 returns c =
-    let called = c.before.before.before.before.before.before in
-    let memory = called.before.before.before.before.before.before.before in
-    let stack = memory.before.before.before.before.before in
-    let numbers = stack.before.before.before.before in
-    let start = numbers.before.before.before.before.before.before.before in
-    put_parts _ _ _ _ _ _ _ _ _ _ _ _ _ _ (search rules) start.requires.1.0 start.requires.1.1 refl numbers.read-numbers.ensures
-    stack.read-numbers2.ensures memory.read-numbers3.ensures called.run_step.ensures
+    put_parts _ _ _ _ _ _ _ _ _ _ _ _ _ _ (search rules) c.requires.1.0 c.requires.1.1 refl c.read_numbers.ensures
+    c.read_numbers-2.ensures c.read_numbers-3.ensures c.run_step.ensures
 
 pub put_step_spec : {M : Type 1} → statement M
 put_step_spec =

@@ -5,9 +5,9 @@ use borrow.Author.Rules.{rules}
 use Rattle.groups.proofs.whole.is_group.Statement.{statement}
 use Rattle.groups.proofs.whole.is_group.Tie as tie
 
-add_result : tie.Need-overflow-add-result
+add_result : tie.Need-overflow_add-result
 add_result c =
-    let small = rest_within _ _ _ c.before.before.before.group-rest.ensures c.before.rest.given.1 in
+    let small = rest_within _ _ _ c.group_rest-rest.ensures c.in-Bytes.is in
     search rules
 
 pub is_group_spec : {M : Type 1} → statement M

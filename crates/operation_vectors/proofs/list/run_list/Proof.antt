@@ -5,11 +5,10 @@ use Rattle.operation_vectors.proofs.Room.{fresh_shaped}
 use Rattle.operation_vectors.proofs.list.run_list.Statement.{statement}
 use Rattle.operation_vectors.proofs.list.run_list.Tie as tie
 
-run_operations_requires : tie.Need-run-operations-requires
+run_operations_requires : tie.Need-run_operations-requires
 run_operations_requires c κs =
-    let known = c.before.before.before.before.before in
-    let fresh = known.before.before.before.before.fresh.ensures in
-    fresh_shaped _ _ _ _ (answer_is _ _ fresh.0) fresh.1 known.records.given.1
+    let fresh = c.fresh-records.ensures in
+    fresh_shaped _ _ _ _ (answer_is _ _ fresh.0) fresh.1 c.in-Count.is
 
 pub run_list_spec : {M : Type 1} → statement M
 run_list_spec =
@@ -18,12 +17,10 @@ run_list_spec =
     (λ c κs. search rules)
     (λ c. search rules)
     (λ c. search rules)
-    (λ c. search rules)
     (λ c κs. search rules)
     (λ c. search rules)
     (λ c. search rules)
     (λ c κs. search rules)
-    (λ c. search rules)
     (λ c κs. search rules)
     run_operations_requires
     (λ c. search rules)

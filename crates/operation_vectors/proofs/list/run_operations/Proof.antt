@@ -5,10 +5,10 @@ use Rattle.paths.specs.Shape.{Shaped}
 use Rattle.operation_vectors.proofs.list.run_operations.Statement.{statement}
 use Rattle.operation_vectors.proofs.list.run_operations.Tie as tie
 
-abbrev invariant_loop : tie.invariant_loop
+abbrev invariant_loop : tie.invariant-loop-i
 invariant_loop table₀ n count used₀ i₀ table used i = Shaped table used n
 
-abbrev decreases_loop : tie.decreases_loop
+abbrev decreases_loop : tie.decreases-loop-i
 decreases_loop table₀ n count used₀ i₀ table used i = count - i
 
 pub run_operations_spec : {M : Type 1} → statement M

@@ -5,11 +5,11 @@ use Rattle.limits.specs.Limits.{record_width}
 use Rattle.operation_vectors.proofs.report.put_record.Statement.{statement}
 use Rattle.operation_vectors.proofs.report.put_record.Tie as tie
 
-abbrev invariant_loop : tie.invariant_loop
-invariant_loop table r f₀ t4 f = f ≤ record_width
+abbrev invariant_loop : tie.invariant-loop-f
+invariant_loop table r f₀ f = f ≤ record_width
 
-abbrev decreases_loop : tie.decreases_loop
-decreases_loop table r f₀ t4 f = record_width - f
+abbrev decreases_loop : tie.decreases-loop-f
+decreases_loop table r f₀ f = record_width - f
 
 pub put_record_spec : {M : Type 1} → statement M
 put_record_spec =
@@ -20,7 +20,6 @@ put_record_spec =
     (λ c. search rules)
     (λ c κs. search rules)
     (λ c κs. search rules)
-    (λ c. search rules)
     (λ c. search rules)
     (λ c. search rules)
     (λ c. search rules)

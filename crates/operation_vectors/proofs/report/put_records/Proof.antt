@@ -4,10 +4,10 @@ use borrow.Author.Rules.{rules}
 use Rattle.operation_vectors.proofs.report.put_records.Statement.{statement}
 use Rattle.operation_vectors.proofs.report.put_records.Tie as tie
 
-abbrev invariant_loop : tie.invariant_loop
+abbrev invariant_loop : tie.invariant-loop-r
 invariant_loop table n used r₀ r = (1 ≤ r) × (r ≤ used + 1)
 
-abbrev decreases_loop : tie.decreases_loop
+abbrev decreases_loop : tie.decreases-loop-r
 decreases_loop table n used r₀ r = used + 1 - r
 
 pub put_records_spec : {M : Type 1} → statement M
