@@ -5,7 +5,7 @@ use Rattle.argcol.proofs.argcol_fresh.Statement.{statement}
 use Rattle.argcol.proofs.argcol_fresh.Tie as tie
 
 returns : tie.Need-returns
-returns c = let f = c.before.before.before.fresh in opened_so _ f.result.answer _ _ c.number_of.ensures f.ensures
+returns c = let f = c.fresh-opened in opened_so _ f.result.answer _ _ c.number_of.ensures f.ensures
 
 pub argcol_fresh_spec : {M : Type 1} → statement M
 argcol_fresh_spec =

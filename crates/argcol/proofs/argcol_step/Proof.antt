@@ -5,7 +5,7 @@ use Rattle.argcol.proofs.argcol_step.Statement.{statement}
 use Rattle.argcol.proofs.argcol_step.Tie as tie
 
 returns : tie.Need-returns
-returns c = stepped_so _ _ _ _ _ _ c.number_of.ensures c.before.before.before.before.before.before.before.step.ensures
+returns c = stepped_so _ _ _ _ _ _ c.number_of.ensures c.step-stepped.ensures
 
 pub argcol_step_spec : {M : Type 1} → statement M
 argcol_step_spec =

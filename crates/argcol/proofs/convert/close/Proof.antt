@@ -6,11 +6,8 @@ use Rattle.argcol.proofs.convert.close.Tie as tie
 
 returns : tie.Need-returns
 returns c =
-    let closed = c.before.before.before.before.before.before.before in
-    let read = closed.before.before.before in
-    let s = read.before.before.before.before in
-    closed_so _ _ s.args.code.now s.args.start _ _ _ _ s.args.lent _ _ _ _ read.read-packed.ensures
-    closed.close.ensures c.before.number_of.ensures c.values-after.ensures
+    closed_so _ _ c.args.code.now c.args.start _ _ _ _ c.args.lent _ _ _ _ c.read_packed-packed.ensures
+    c.close-closed.ensures c.number_of.ensures c.values_after.ensures
 
 pub close_spec : {M : Type 1} → statement M
 close_spec =

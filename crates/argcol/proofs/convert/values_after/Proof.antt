@@ -6,17 +6,17 @@ use borrow.Author.Rules.{rules}
 use Rattle.argcol.proofs.convert.values_after.Statement.{statement}
 use Rattle.argcol.proofs.convert.values_after.Tie as tie
 
-returns : tie.Need-returns
-returns c = values_so _ Nothing _ _ c.enum_told.given.1 refl
+returns : tie.Need-returns-in-Nothing
+returns c = values_so _ Nothing _ _ c.in-Nothing.is refl
 
-returns_2 : tie.Need-returns-2
-returns_2 c = values_so _ Over _ _ c.enum-told2.given.1 refl
+returns_2 : tie.Need-returns-in-Over
+returns_2 c = values_so _ Over _ _ c.in-Over.is refl
 
-returns_3 : tie.Need-returns-3
-returns_3 c = values_so _ (Granted _) _ _ c.before.answer.given.1 refl
+returns_3 : tie.Need-returns-in-Granted
+returns_3 c = values_so _ (Granted _) _ _ c.in-Granted.is refl
 
-returns_4 : tie.Need-returns-4
-returns_4 c = values_so _ (Refused _) _ _ c.before.answer2.given.1 refl
+returns_4 : tie.Need-returns-in-Refused
+returns_4 c = values_so _ (Refused _) _ _ c.in-Refused.is refl
 
 pub values_after_spec : {M : Type 1} → statement M
 values_after_spec =

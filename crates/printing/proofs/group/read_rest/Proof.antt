@@ -4,16 +4,15 @@ use borrow.Author.Rules.{rules}
 use Rattle.printing.proofs.group.read_rest.Statement.{statement}
 use Rattle.printing.proofs.group.read_rest.Tie as tie
 
-add_end : tie.Need-overflow-add-end
-add_end c = let small = rest_within _ _ _ c.before.before.before.group-rest.ensures c.before.rest.given.1 in search rules
+add_end : tie.Need-overflow_add-end
+add_end c = let small = rest_within _ _ _ c.group_rest-rest.ensures c.in-Bytes.is in search rules
 
-part_fetch_end : tie.Need-slice-bounds-fetch-end
-part_fetch_end c = let small = rest_within _ _ _ c.before.before.before.group-rest.ensures c.before.rest.given.1 in search rules
+part_fetch_end : tie.Need-slice_bounds-fetch-end
+part_fetch_end c = let small = rest_within _ _ _ c.group_rest-rest.ensures c.in-Bytes.is in search rules
 
-part_put_step_end : tie.Need-slice-bounds-put-step-end
+part_put_step_end : tie.Need-slice_bounds-put_step-end
 part_put_step_end c =
-    let told = c.before.before.before.before.before.before.before.before in
-    let small = rest_within _ _ _ told.before.before.before.group-rest.ensures told.before.rest.given.1 in
+    let small = rest_within _ _ _ c.group_rest-rest.ensures c.in-Bytes.is in
     search rules
 
 pub read_rest_spec : {M : Type 1} → statement M

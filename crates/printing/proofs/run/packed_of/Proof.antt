@@ -9,6 +9,6 @@ packed_of_spec =
     tie.close
     (tie.spec
     (λ c. search rules)
-    (λ c. simp (eq-eqb _ 0 c.if1.true))
+    (λ c. simp (eq-eqb _ 0 c.if-header-eq0.true))
     (λ c κs. search rules)
-    (λ c. simp (ne_eqb _ 0 c.before.if1.false, c.from-numbers.ensures.0)))
+    (λ c. simp (ne_eqb _ 0 c.if-header-eq0.false, c.from_numbers.ensures.0)))

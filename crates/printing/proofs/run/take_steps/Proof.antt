@@ -6,10 +6,10 @@ use borrow.Author.Rules.{rules}
 use Rattle.printing.proofs.run.take_steps.Statement.{statement}
 use Rattle.printing.proofs.run.take_steps.Tie as tie
 
-abbrev invariant_loop : tie.invariant_loop
+abbrev invariant_loop : tie.invariant-loop-i
 invariant_loop table₀ code group₀ count walk₀ i₀ table group walk i = (length table ≡ length table₀) × (length group ≡ length group₀)
 
-abbrev decreases_loop : tie.decreases_loop
+abbrev decreases_loop : tie.decreases-loop-i
 decreases_loop table₀ code group₀ count walk₀ i₀ table group walk i = count - i
 
 pub take_steps_spec : {M : Type 1} → statement M

@@ -6,10 +6,10 @@ use borrow.Author.Rules.{rules}
 use Rattle.printing.proofs.source.expand.Statement.{statement}
 use Rattle.printing.proofs.source.expand.Tie as tie
 
-abbrev invariant_loop : tie.invariant_loop
+abbrev invariant_loop : tie.invariant-loop-i
 invariant_loop out₀ rest₀ i₀ out rest i = length out ≡ length out₀
 
-abbrev decreases_loop : tie.decreases_loop
+abbrev decreases_loop : tie.decreases-loop-i
 decreases_loop out₀ rest₀ i₀ out rest i = length out₀ - i
 
 pub expand_spec : {M : Type 1} → statement M

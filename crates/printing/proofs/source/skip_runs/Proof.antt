@@ -4,10 +4,10 @@ use borrow.Author.Rules.{rules}
 use Rattle.printing.proofs.source.skip_runs.Statement.{statement}
 use Rattle.printing.proofs.source.skip_runs.Tie as tie
 
-abbrev invariant_loop : tie.invariant_loop
+abbrev invariant_loop : tie.invariant-loop-i
 invariant_loop left rest₀ i₀ rest i = Unit {0}
 
-abbrev decreases_loop : tie.decreases_loop
+abbrev decreases_loop : tie.decreases-loop-i
 decreases_loop left rest₀ i₀ rest i = left - i
 
 pub skip_runs_spec : {M : Type 1} → statement M
