@@ -4,10 +4,10 @@ use native.Mathlib.Omega.{arith}
 use Rattle.replay.proofs.main.Statement.{statement}
 use Rattle.replay.proofs.main.Tie as tie
 
-abbrev invariant_loop : tie.invariant_loop
+abbrev invariant_loop : tie.invariant-loop-turns
 invariant_loop turns₀ turns = Unit {0}
 
-abbrev decreases_loop : tie.decreases_loop
+abbrev decreases_loop : tie.decreases-loop-turns
 decreases_loop turns₀ turns = turns
 
 pub main_spec : {M : Type 1} → statement M

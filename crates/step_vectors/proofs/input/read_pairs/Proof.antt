@@ -6,10 +6,10 @@ use lib.ListN.{length}
 use Rattle.step_vectors.proofs.input.read_pairs.Statement.{statement}
 use Rattle.step_vectors.proofs.input.read_pairs.Tie as tie
 
-abbrev invariant_loop : tie.invariant_loop
+abbrev invariant_loop : tie.invariant-loop-i
 invariant_loop out₀ count i₀ out i = length out ≡ length out₀
 
-abbrev decreases_loop : tie.decreases_loop
+abbrev decreases_loop : tie.decreases-loop-i
 decreases_loop out₀ count i₀ out i = count - i
 
 pub read_pairs_spec : {M : Type 1} → statement M

@@ -5,10 +5,10 @@ use lib.ListN.{length}
 use Rattle.step_vectors.proofs.report.count_set.Statement.{statement}
 use Rattle.step_vectors.proofs.report.count_set.Tie as tie
 
-abbrev invariant_loop : tie.invariant_loop
+abbrev invariant_loop : tie.invariant-loop-i
 invariant_loop list count₀ i₀ count i = count ≤ i
 
-abbrev decreases_loop : tie.decreases_loop
+abbrev decreases_loop : tie.decreases-loop-i
 decreases_loop list count₀ i₀ count i = length list - i
 
 pub count_set_spec : {M : Type 1} → statement M

@@ -6,10 +6,10 @@ use lib.ListN.{length}
 use Rattle.step_vectors.proofs.report.put_rows.Statement.{statement}
 use Rattle.step_vectors.proofs.report.put_rows.Tie as tie
 
-abbrev invariant_loop : tie.invariant_loop
+abbrev invariant_loop : tie.invariant-loop-at
 invariant_loop letter width list long number₀ at₀ number at = number ≤ at
 
-abbrev decreases_loop : tie.decreases_loop
+abbrev decreases_loop : tie.decreases-loop-at
 decreases_loop letter width list long number₀ at₀ number at = length list - at
 
 pub put_rows_spec : {M : Type 1} → statement M

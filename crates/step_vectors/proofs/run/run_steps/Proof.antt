@@ -6,10 +6,10 @@ use lib.ListN.{length}
 use Rattle.step_vectors.proofs.run.run_steps.Statement.{statement}
 use Rattle.step_vectors.proofs.run.run_steps.Tie as tie
 
-abbrev invariant_loop : tie.invariant_loop
+abbrev invariant_loop : tie.invariant-loop-i
 invariant_loop table₀ count head₀ i₀ table head i = length table ≡ length table₀
 
-abbrev decreases_loop : tie.decreases_loop
+abbrev decreases_loop : tie.decreases-loop-i
 decreases_loop table₀ count head₀ i₀ table head i = count - i
 
 pub run_steps_spec : {M : Type 1} → statement M
