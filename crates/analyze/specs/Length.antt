@@ -24,7 +24,6 @@ use Rattle.labels.specs.declared.Pattern.TheVariants as pattern
 use Rattle.labels.specs.Operands.{on_arg, choose, is_length, is_unmasked_length}
 use Rattle.operations.specs.declared.Operation.{Operation}
 use Rattle.operations.specs.declared.Operation.TheVariants.{Nothing, MarkNotBool, SetTname, SetArray}
-use Rattle.analyze.specs.declared.OnStack.{OnStack}
 use Rattle.analyze.specs.declared.OnStack.TheVariants as stack
 use Rattle.analyze.specs.declared.InMemory.TheVariants as memory
 use Rattle.analyze.specs.declared.Plan.{Plan}

@@ -1,6 +1,6 @@
 -- The arms that name an argument or label the top alone, in the Rust's order. Operands are those of the Rust's
 -- `StepResult::args` (labels/specs/Step.antt).
-use Rattle.std.specs.Prelude.{ℕ, ◌+◌, ◌*◌, ◌%◌, Bool, true, cond, not, ◌&&◌, List, eqb, ltb}
+use Rattle.std.specs.Prelude.{ℕ, ◌+◌, ◌*◌, ◌%◌, Bool, true, cond, ◌&&◌, List, eqb, ltb}
 use Rattle.limits.specs.Between.{between}
 use Rattle.limits.specs.Codes as code
 use Rattle.limits.specs.Confidences.{by_byte, by_and_or_is_zero, by_sdiv_or_smod, by_mstore8, by_the_rest}

@@ -43,11 +43,11 @@ unfoldable pub hints_of : Bool → Step → Hints
 hints_of active x = cond (eqb x.op REVERT && active) (both ClearRangeHints Nothing) (clear_operands x)
 
 -- does the comparison of v with that bound name a range? Added 0, unmasked, offset not 0 unless the path is the root
--- (decision D2). lessThan: it is value < bound
+-- (decision D2). less_than: it is value < bound
 unfoldable pub names_range : List ℕ → ℕ → Val → U256 → Bool → Bool
-names_range bytes pc v bound lessThan =
+names_range bytes pc v bound less_than =
     eqb v.add_val 0 && is_unmasked v.and_mask && (not (eqb v.offset 0) || eqb v.path 1)
-    && is_range_bound (value_of bound) lessThan && is_empty_revert_guard bytes pc lessThan
+    && is_range_bound (value_of bound) less_than && is_empty_revert_guard bytes pc less_than
 
 -- the comparison by its orientation: value < bound is LT with the argument first or GT with it second (decision D1);
 -- the other operand has label kind 0 (decision D2)
@@ -62,7 +62,7 @@ comparison_of x =
 -- f of what is compared; otherwise d
 abbrev pub on_comparison : {A : Type 0} → Comparison → (Val → U256 → Bool → A) → A → A
 on_comparison comparison.Nothing f d = d
-on_comparison (comparison.Of v bound lessThan) f d = f v bound lessThan
+on_comparison (comparison.Of v bound less_than) f d = f v bound less_than
 
 -- does the range rule apply? "the step then stops"
 unfoldable pub range_rule : Bool → List ℕ → Step → Bool
@@ -72,7 +72,7 @@ range_rule active bytes x =
 -- "Range rule: a bound of 1 to 255 inclusive (LT's own bound is one more) before an empty revert names uint8 at 6 and
 -- marks not-bool"; the mark is set directly, since `mark_not_bool` would drop the new name (decision D3)
 abbrev pub name_range : Val → U256 → Bool → Plan
-name_range v bound lessThan = two_operations (name_as v (code.uint + 8) by_range) (InsertNotBool v.path v.offset)
+name_range v bound less_than = two_operations (name_as v (code.uint + 8) by_range) (InsertNotBool v.path v.offset)
 
 -- what it does
 unfoldable pub range_plan : Step → Plan

@@ -3,7 +3,6 @@
 use Rattle.std.specs.Prelude.{ℕ, ◌≤◌, List}
 use Rattle.limits.specs.Limits.{records_max}
 use Rattle.paths.specs.Shape.{Shaped}
-use Rattle.labels.specs.declared.Val.{Val}
 use Rattle.labels.specs.declared.Label.{Label}
 use Rattle.labels.specs.declared.Label.TheVariants.{Unlabelled, CallData, Arg, IsZeroResult}
 use Rattle.labels.specs.declared.Step.{Step}

@@ -9,7 +9,7 @@ use Rattle.word.specs.Numbers.{limbs_at}
 use Rattle.facts.specs.declared.Records.{Records}
 use Rattle.limits.specs.Refusal.{taken}
 use Rattle.limits.proofs.Refusals.{not_taken}
-use Rattle.facts.specs.Fresh.{number_of as freshNumber, count_of}
+use Rattle.facts.specs.Fresh.{number_of as fresh_number, count_of}
 use Rattle.head.specs.Held.{Held}
 use Rattle.head.specs.Fresh as fresh-call
 use Rattle.closing.specs.declared.Packed.{Packed}
@@ -22,14 +22,14 @@ use Rattle.step.specs.Call.{Lent as StepLent, Outcome as StepOutcome}
 use Rattle.text.specs.declared.TextAnswer.{TextAnswer}
 use Rattle.text.specs.declared.TextAnswer.TheVariants.{Written, Refused}
 use Rattle.text.specs.Call as text-call
-use Rattle.text.specs.Call.{length_of, number_of as textNumber}
+use Rattle.text.specs.Call.{length_of, number_of as text_number}
 use Rattle.argcol.specs.declared.Values.{Values}
 use Rattle.argcol.specs.Numbers.{values_after, packed_of, hand_numbers, FreshOutcome, ClosingOutcome, TextOutcome}
 use Rattle.argcol.specs.Lengths.{length_after}
 
 -- the fresh call, the step and the text call, from the numbers of their answers
-pub opened_so : (h : Held) (a : Records) (n : ℕ) (h' : Held) → n ≡ freshNumber a
-    → fresh-call.Outcome h (freshNumber a) (count_of a) h' → FreshOutcome h n h'
+pub opened_so : (h : Held) (a : Records) (n : ℕ) (h' : Held) → n ≡ fresh_number a
+    → fresh-call.Outcome h (fresh_number a) (count_of a) h' → FreshOutcome h n h'
 opened_so h a n h' e O =
     record { count = count_of a; outcome = subst (λ (j : ℕ). fresh-call.Outcome h j (count_of a) h') (sym e) O }
 
@@ -37,8 +37,8 @@ pub stepped_so : (l : StepLent) (bytes x : List ℕ) (n k : ℕ) (l' : StepLent)
     → StepOutcome l bytes x n l'
 stepped_so l bytes x n k l' e O = subst (λ (j : ℕ). StepOutcome l bytes x j l') (sym e) O
 
-pub written_so : (cs out : List ℕ) (lent : ℕ) (a : TextAnswer) (n m : ℕ) (out' : List ℕ) → n ≡ textNumber a
-    → m ≡ length_after a lent → text-call.Outcome cs out (textNumber a) (length_of a) out'
+pub written_so : (cs out : List ℕ) (lent : ℕ) (a : TextAnswer) (n m : ℕ) (out' : List ℕ) → n ≡ text_number a
+    → m ≡ length_after a lent → text-call.Outcome cs out (text_number a) (length_of a) out'
     → TextOutcome cs out lent n out' m
 written_so cs out lent a n m out' e q O = record {
   written = length_of a;
@@ -46,7 +46,7 @@ written_so cs out lent a n m out' e q O = record {
   leaves = q ∙ so a ∙ ap (λ (i : ℕ). cond (eqb i taken) (length_of a) lent) (sym e);
 }
   where
-    so : (b : TextAnswer) → length_after b lent ≡ cond (eqb (textNumber b) taken) (length_of b) lent
+    so : (b : TextAnswer) → length_after b lent ≡ cond (eqb (text_number b) taken) (length_of b) lent
     so (Written k) = refl
     so (Refused r) = sym (ap (λ (b : Bool). cond b 0 lent) (not_taken r))
 

@@ -1,6 +1,6 @@
 -- What MUL, SHL, LT and GT plan, by what their labels say.
 use Prim.Native.Nat.{ℕ, ◌+◌, ◌*◌, ◌/◌, ◌%◌, ◌^◌, ◌≤◌, ◌<◌}
-use mathlib.Core.Path.{◌≡◌, refl, sym, ap, subst, ◌∙◌}
+use mathlib.Core.Path.{◌≡◌, refl, sym, ap, ◌∙◌}
 use mathlib.Core.Bool.{Bool, true, false, cond, not, ◌&&◌, ◌||◌, and-false}
 use mathlib.Core.List.{List}
 use native.Mathlib.Omega.{arith}
@@ -25,7 +25,7 @@ use Rattle.code.specs.Guard.{guard_failure_pc}
 use Rattle.code.specs.declared.Place.{Place}
 use Rattle.code.specs.declared.Place.TheVariants.{At, Nowhere}
 use Rattle.facts.specs.Table.{key_of, parent_of}
-use Rattle.facts.specs.State.{Node, nodes, node_of}
+use Rattle.facts.specs.State.{Node, nodes}
 use Rattle.facts.proofs.Encode.{nodes_get}
 use Rattle.marks.specs.Hints.{has_range_hint}
 use Rattle.labels.specs.declared.Val.{Val}

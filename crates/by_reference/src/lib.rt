@@ -5,7 +5,7 @@
 
 mod by_value;
 
-ghost use Rattle.facts.specs.Fresh.{number_of as freshNumber, count_of};
+ghost use Rattle.facts.specs.Fresh.{number_of as fresh_number, count_of};
 ghost use Rattle.head.specs.Held.{held};
 ghost use Rattle.head.specs.Fresh.{Outcome as FreshOutcome};
 ghost use Rattle.step.specs.Call.{Outcome, lend, number_of};
@@ -21,7 +21,7 @@ use step::StepAnswer;
 
 // Leaves a lone root, the other records zero, and the decoder active; or refuses a table that question 1 doesn't take.
 pub fn fresh(head: &mut Head, table: &mut [u32]) -> Records
-    ensures { FreshOutcome (held head.old table.old) (freshNumber result) (count_of result)
+    ensures { FreshOutcome (held head.old table.old) (fresh_number result) (count_of result)
         (held head.new table.new) }
 {
     let before = Head {

@@ -2,7 +2,7 @@
 -- addition), which is 32 times the entry count."
 use Rattle.std.specs.Prelude.{ℕ, suc, ◌-◌, ◌*◌, Bool, true, false, cond, List, ◌++◌, length, drop}
 use Rattle.limits.specs.Limits.{budget_max, word_bytes}
-use Rattle.limits.specs.Refusal.{taken, number_of as refusalNumber}
+use Rattle.limits.specs.Refusal.{taken, number_of as refusal_number}
 use Rattle.types.specs.Codes.{all_codes}
 use Rattle.facts.specs.State.{Node}
 use Rattle.list.specs.Seen.{children_in, is_empty, last_word}
@@ -20,7 +20,7 @@ pub data Verdict : Type 0 where
 
 -- the number and the values of each answer of the call
 abbrev pub verdict_of : Closing → Verdict
-verdict_of (Refused r) = refused (refusalNumber r)
+verdict_of (Refused r) = refused (refusal_number r)
 verdict_of Nothing = none
 verdict_of Over = over
 verdict_of (Granted g) = granted g.entries g.left g.length

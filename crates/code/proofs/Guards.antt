@@ -16,41 +16,41 @@ use Rattle.code.specs.Guard.{failure_place, guard_failure_pc, revert_at, is_empt
 use Rattle.code.specs.Guard.{is_division_check}
 use Rattle.code.proofs.Reverts.{from_place}
 
-module _ (code : List ℕ) (pc : ℕ) (lessThan : Bool) where
+module _ (code : List ℕ) (pc : ℕ) (less_than : Bool) where
   module _ (t : Bool) (p : ℕ) (j : Jump) (et : t ≡ is_at code pc ISZERO) (ep : p ≡ past_byte code pc ISZERO) (ej : j ≡ jump_at code p) where
-    is_of : (k : Jump) → j ≡ k → failure_place k (not (beq lessThan t)) ≡ guard_failure_pc code pc lessThan
+    is_of : (k : Jump) → j ≡ k → failure_place k (not (beq less_than t)) ≡ guard_failure_pc code pc less_than
     unfolding guard_failure_pc
     is_of k e =
-        (λ i. failure_place (e' i) (not (beq lessThan (et i))))
+        (λ i. failure_place (e' i) (not (beq less_than (et i))))
       where
         e' : k ≡ jump_at code (past_byte code pc ISZERO)
         e' = sym e ∙ ej ∙ ap (jump_at code) ep
 
-    pub guard_absent : j ≡ Absent → Nowhere ≡ guard_failure_pc code pc lessThan
+    pub guard_absent : j ≡ Absent → Nowhere ≡ guard_failure_pc code pc less_than
     guard_absent e = is_of Absent e
 
     module _ (target next : ℕ) (e : j ≡ To target next) where
-      pub guard_next : not (beq lessThan t) ≡ true → At next ≡ guard_failure_pc code pc lessThan
+      pub guard_next : not (beq less_than t) ≡ true → At next ≡ guard_failure_pc code pc less_than
       guard_next f = ap (λ (b : Bool). cond b (At next) (At target)) (sym f) ∙ is_of (To target next) e
 
-      pub guard_target : not (beq lessThan t) ≡ false → At target ≡ guard_failure_pc code pc lessThan
+      pub guard_target : not (beq less_than t) ≡ false → At target ≡ guard_failure_pc code pc less_than
       guard_target f = ap (λ (b : Bool). cond b (At next) (At target)) (sym f) ∙ is_of (To target next) e
 
   -- the empty revert at the place, or past the end
-  module _ (place : Place) (ep : place ≡ guard_failure_pc code pc lessThan) where
-    revert_of : (q : Place) → place ≡ q → revert_at code q ≡ is_empty_revert_guard code pc lessThan
+  module _ (place : Place) (ep : place ≡ guard_failure_pc code pc less_than) where
+    revert_of : (q : Place) → place ≡ q → revert_at code q ≡ is_empty_revert_guard code pc less_than
     unfolding is_empty_revert_guard
     revert_of q e = ap (revert_at code) (sym e ∙ ep)
 
-    pub revert_nowhere : place ≡ Nowhere → false ≡ is_empty_revert_guard code pc lessThan
+    pub revert_nowhere : place ≡ Nowhere → false ≡ is_empty_revert_guard code pc less_than
     revert_nowhere e = revert_of Nowhere e
 
     module _ (at : ℕ) (e : place ≡ At at) where
-      pub revert_past : length code ≤ at → false ≡ is_empty_revert_guard code pc lessThan
+      pub revert_past : length code ≤ at → false ≡ is_empty_revert_guard code pc less_than
       unfolding is_empty_revert after_jumpdest begins_any empty_reverts begins
       revert_past h = ap is_empty_revert (sym (drop_of_length-le code h)) ∙ revert_of (At at) e
 
-      pub revert_at_lem : (r : Bool) → r ≡ is_empty_revert (take (length code - at) (drop at code)) → r ≡ is_empty_revert_guard code pc lessThan
+      pub revert_at_lem : (r : Bool) → r ≡ is_empty_revert (take (length code - at) (drop at code)) → r ≡ is_empty_revert_guard code pc less_than
       revert_at_lem r er = er ∙ ap is_empty_revert (from_place code at) ∙ revert_of (At at) e
 
 module _ (code : List ℕ) (pc : ℕ) (j : Jump) (ej : j ≡ jump_at code pc) where

@@ -19,8 +19,8 @@ failure_place (To target next) falls = cond falls (At next) (At target)
 -- in range, so control goes to the place behind it; after value > bound by values out of range, so it goes to the
 -- target. ISZERO before the push turns the two
 unfoldable pub guard_failure_pc : List ℕ → ℕ → Bool → Place
-guard_failure_pc code pc lessThan =
-    failure_place (jump_at code (past_byte code pc ISZERO)) (not (beq lessThan (is_at code pc ISZERO)))
+guard_failure_pc code pc less_than =
+    failure_place (jump_at code (past_byte code pc ISZERO)) (not (beq less_than (is_at code pc ISZERO)))
 
 -- "Empty revert: `guard_failure_pc` names a place, or there is none; read the code from that place on"
 abbrev pub revert_at : List ℕ → Place → Bool
@@ -28,7 +28,7 @@ revert_at code Nowhere = false
 revert_at code (At place) = is_empty_revert (drop place code)
 
 unfoldable pub is_empty_revert_guard : List ℕ → ℕ → Bool → Bool
-is_empty_revert_guard code pc lessThan = revert_at code (guard_failure_pc code pc lessThan)
+is_empty_revert_guard code pc less_than = revert_at code (guard_failure_pc code pc less_than)
 
 -- behind a double ISZERO: a jump to JUMPDEST, DIV (`mod.rs`: "it's not bool in that case")
 abbrev pub leads_to_division : List ℕ → Jump → Bool

@@ -6,7 +6,7 @@ use native.Mathlib.Decide.{ℕ_discrete, dec_lt}
 use native.Mathlib.Omega.{arith}
 use borrow.Author.Tests.{eq-eqb, ne_eqb, le-leb, lt-leb}
 use Rattle.limits.specs.Limits.{record_width, records_max}
-use Rattle.limits.specs.Refusal.{taken, number_of as refusalNumber}
+use Rattle.limits.specs.Refusal.{taken, number_of as refusal_number}
 use Rattle.limits.specs.declared.refusal.Refusal.TheVariants.{NoRecords}
 use Rattle.facts.specs.Count.{has_records, CountAnswer, Counted}
 use Rattle.facts.specs.Fresh.{number_of, count_of}
@@ -36,7 +36,7 @@ pub answers_so : (n : ℕ) (r : Records) → r ≡ record_count n → CountAnswe
 unfolding record_count
 answers_so n r e = record { number_is = ap number_of e ∙ number (has_records n); count_is = ap count_of e ∙ count (has_records n) }
   where
-    number : (b : Bool) → number_of (cond b (Count (n / record_width)) Unfit) ≡ cond b taken (refusalNumber NoRecords)
+    number : (b : Bool) → number_of (cond b (Count (n / record_width)) Unfit) ≡ cond b taken (refusal_number NoRecords)
     number true = refl
     number false = refl
 
@@ -48,13 +48,13 @@ pub answer_is : (n : ℕ) (r : Records) → CountAnswer n (number_of r) (count_o
 unfolding record_count
 answer_is n (Count N) A = go (has_records n) A.number_is A.count_is
   where
-    go : (b : Bool) → taken ≡ cond b taken (refusalNumber NoRecords) → N ≡ cond b (n / record_width) 0
+    go : (b : Bool) → taken ≡ cond b taken (refusal_number NoRecords) → N ≡ cond b (n / record_width) 0
         → Count N ≡ cond b (Count (n / record_width)) Unfit
     go true e f = ap Count f
     go false e f = absurd (omega arith)
 answer_is n Unfit A = go (has_records n) A.number_is
   where
-    go : (b : Bool) → refusalNumber NoRecords ≡ cond b taken (refusalNumber NoRecords)
+    go : (b : Bool) → refusal_number NoRecords ≡ cond b taken (refusal_number NoRecords)
         → Unfit ≡ cond b (Count (n / record_width)) Unfit
     go true e = absurd (omega arith)
     go false e = refl

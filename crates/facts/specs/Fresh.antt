@@ -1,6 +1,6 @@
 -- "A fresh call takes question 1 and leaves a lone root, the other records zero, active."
 use Rattle.std.specs.Prelude.{ℕ, cond, List, [], ◌∷◌, eqb}
-use Rattle.limits.specs.Refusal.{taken, number_of as refusalNumber}
+use Rattle.limits.specs.Refusal.{taken, number_of as refusal_number}
 use Rattle.limits.specs.declared.refusal.Refusal.TheVariants.{NoRecords}
 use Rattle.facts.specs.State.{root, encode}
 use Rattle.facts.specs.declared.Records.{Records}
@@ -9,7 +9,7 @@ use Rattle.facts.specs.declared.Records.TheVariants.{Count, Unfit}
 -- document 01's number for each answer of a fresh call; the 0 of one that is taken is ours
 abbrev pub number_of : Records → ℕ
 number_of (Count N) = taken
-number_of Unfit = refusalNumber NoRecords
+number_of Unfit = refusal_number NoRecords
 
 -- and its value: the record count of a table that is taken, 0 for a refusal
 abbrev pub count_of : Records → ℕ

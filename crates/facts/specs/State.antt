@@ -1,6 +1,6 @@
 -- The state: "the paths so far as the used records", each with its fields, in the order of their numbers; and the table
 -- that a state stands for, with child and next derived (decision D31).
-use Rattle.std.specs.Prelude.{ℕ, zero, suc, ◌+◌, ◌-◌, ◌*◌, cond, List, [], ◌∷◌, ◌++◌, length, get_or, replicate, eqb, ltb}
+use Rattle.std.specs.Prelude.{ℕ, zero, suc, ◌-◌, ◌*◌, cond, List, [], ◌∷◌, ◌++◌, length, get_or, replicate, eqb, ltb}
 use Rattle.limits.specs.Limits.{record_width}
 use Rattle.facts.specs.Table.{key_of, parent_of, seen_of, not_bool_of, blocked_of, kind_of, count_of, name_of}
 use Rattle.facts.specs.Table.{confidence_of}

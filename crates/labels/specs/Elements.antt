@@ -1,5 +1,5 @@
 -- The numbers of an operand or a slot, as tests make them; no outcome is written with them.
-use Rattle.std.specs.Prelude.{ℕ, ◌+◌, List, ◌++◌}
+use Rattle.std.specs.Prelude.{ℕ, List, ◌++◌}
 use Rattle.word.specs.Numbers.{numbers_of}
 use Rattle.labels.specs.declared.Element.{Element}
 use Rattle.labels.specs.Label.{label_numbers}

@@ -1,10 +1,9 @@
 -- Which paths the operations on names, marks and hints add: one at most, the stated one, and no path moves.
-use Prim.Native.Nat.{ℕ, ◌+◌, max}
+use Prim.Native.Nat.{ℕ, max}
 use mathlib.Core.Path.{◌≡◌, refl, ap}
 use mathlib.Core.Bool.{Bool, true, false, cond, not, ◌&&◌, ◌||◌, and-eq-true_iff}
 use mathlib.Core.List.{List}
 use lib.Dec.{eqb}
-use lib.ListN.{length}
 use borrow.Author.Tests.{not-true, eqb-false}
 use Rattle.limits.specs.Codes as code
 use Rattle.limits.specs.Fields as field
@@ -13,15 +12,14 @@ use Rattle.facts.specs.State.{Node, node_of}
 use Rattle.paths.specs.Update.{update}
 use Rattle.paths.specs.Find.{find_in, get_mut}
 use Rattle.paths.specs.Make.{ensure, get_or_create}
-use Rattle.paths.specs.Adds.{missing}
 use Rattle.paths.specs.Adds.{SamePaths, AddsPath}
 use Rattle.paths.proofs.Alike.{Alike, alike_refl, alike_is, alike_trans, alike_cond, alike_update, alike_twice}
 use Rattle.paths.proofs.Alike.{alike_create, alike_ensure}
-use Rattle.paths.proofs.Lookups.{ensure_there, got_node}
+use Rattle.paths.proofs.Lookups.{ensure_there}
 use Rattle.paths.proofs.Adds.{alike_same, alike_adds}
 use Rattle.marks.specs.Names.{is_range, drop_name, give_name, is_not_bool, name_at, name_made, set_tname, insert_not_bool}
 use Rattle.marks.specs.Names.{drop_bool_at, drop_bool, mark_not_bool}
-use Rattle.marks.specs.Hints.{clear_at, clear_range_hint, has_range_hint}
+use Rattle.marks.specs.Hints.{clear_at, clear_range_hint}
 use Rattle.marks.proofs.NameLaws.{stops, keeps, bars}
 
 -- a path that is marked or has a range name is there

@@ -1,6 +1,6 @@
 -- `is_name` in each range of codes.
 use mathlib.Core.Path.{◌≡◌}
-use mathlib.Core.Bool.{Bool, false, ◌&&◌, and-false, or-false}
+use mathlib.Core.Bool.{Bool, ◌&&◌, and-false, or-false}
 use Prim.Native.Nat.{ℕ, ◌-◌, ◌≤◌, ◌<◌}
 use native.Mathlib.Omega.{arith}
 use borrow.Author.Tests.{le-leb, lt-leb}

@@ -1,12 +1,11 @@
 -- Operations run one by one on a table: what the first leaves for the others, and what they come to.
 use Prim.Native.Nat.{ℕ, ◌≤◌}
-use mathlib.Core.Path.{◌≡◌, refl, sym, ap, ◌∙◌}
-use mathlib.Core.List.{List, [], ◌∷◌}
+use mathlib.Core.Path.{◌≡◌, sym, ap, ◌∙◌}
+use mathlib.Core.List.{List, ◌∷◌}
 use native.Mathlib.Omega.{arith}
 use lib.ListN.{length}
 use Rattle.facts.specs.State.{Node, nodes}
 use Rattle.facts.proofs.Encode.{length_nodes}
-use Rattle.paths.specs.Shape.{Shaped}
 use Rattle.paths.specs.Represents.{Represents}
 use Rattle.operations.specs.declared.Operation.{Operation}
 use Rattle.operations.specs.Run.{run, run_all}

@@ -1,15 +1,14 @@
 -- Each operation of this crate adds the stated path and no other, and moves none.
-use Rattle.std.proofs.Common.{◌≡◌, ℕ, ◌-◌, ◌≤◌, cond, eqb, List, [], ◌∷◌, ◌++◌, length, get_or, take, refl, ap, ◌∙◌, arith, ne_eqb}
-use Rattle.facts.specs.State.{Node, paths}
+use Rattle.std.proofs.Common.{◌≡◌, ℕ, cond, eqb, List, length, take, refl, ap, ◌∙◌, arith, ne_eqb}
+use Rattle.facts.specs.State.{Node}
 use Rattle.paths.specs.Find.{find_in}
-use Rattle.paths.specs.Make.{ensure, make_seen, get_or_create}
+use Rattle.paths.specs.Make.{ensure, get_or_create}
 use Rattle.paths.specs.Adds.{missing}
-use Rattle.paths.specs.Order.{Ordered}
 use Rattle.paths.specs.Adds.{SamePaths, AddsPath}
 use Rattle.paths.proofs.Kept.{paths_ensure}
-use Rattle.paths.proofs.Reach.{length_ensure, ensure_path, ensure_range}
-use Rattle.paths.proofs.Alike.{Alike, alike_refl, alike_seen, alike_create, alike_find, alike_paths}
-use Rattle.paths.proofs.Lookups.{find_ensure, find_ensured, none_under_last}
+use Rattle.paths.proofs.Reach.{length_ensure, ensure_range}
+use Rattle.paths.proofs.Alike.{Alike, alike_create, alike_find, alike_paths}
+use Rattle.paths.proofs.Lookups.{find_ensure, find_ensured}
 
 pub alike_same : (s s' : List Node) → Alike s s' → SamePaths s s'
 alike_same s s' A = record { size = A.size; kept = alike_paths s s' A; find = alike_find s s' A }

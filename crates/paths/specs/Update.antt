@@ -1,7 +1,7 @@
 -- A state with one field of one node changed, as the Rust stores into the `Info` that `get_mut` or `get_or_create`
 -- gives. The fields are "key, parent, child, next, seen, not-bool, blocked, kind, count, name, confidence"; those up to
 -- next never change by it.
-use Rattle.std.specs.Prelude.{ℕ, zero, suc, cond, List, set, ◌==◌, slice_set}
+use Rattle.std.specs.Prelude.{ℕ, zero, suc, cond, List, ◌==◌, slice_set}
 use Rattle.limits.specs.Fields as field
 use Rattle.facts.specs.State.{Node, node_of}
 

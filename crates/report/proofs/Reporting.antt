@@ -8,7 +8,7 @@ use lib.Dec.{eqb}
 use lib.ListN.{length, drop}
 use lib.Seq.{sets}
 use borrow.Author.Tests.{eqb-true}
-use Rattle.limits.specs.Refusal.{taken, number_of as refusalNumber}
+use Rattle.limits.specs.Refusal.{taken, number_of as refusal_number}
 use Rattle.limits.specs.declared.refusal.Refusal.{Refusal}
 use Rattle.types.specs.Tree.{AbiTypes, nil, well_formed}
 use Rattle.types.specs.Codes.{codes, all_codes}
@@ -58,11 +58,11 @@ module _ (answer : Closing) (cs out : List ℕ) (r : ℕ) (out' : List ℕ) wher
       by (granted g.entries g.left g.length) (ap verdict_of e)
       (λ ts rest h c n. f ts rest record { formed = h; number = n; spelt = c })
 
-  pub report_refused : (q : Refusal) (number : ℕ) → answer ≡ Refused q → number ≡ refusalNumber q
+  pub report_refused : (q : Refusal) (number : ℕ) → answer ≡ Refused q → number ≡ refusal_number q
       → Stored (refused_line number 0) out r out' → Reported (verdict_of answer) cs out r out'
   unfolding answer_text
   report_refused q number e n line =
-      by (refused (refusalNumber q)) (ap verdict_of e)
+      by (refused (refusal_number q)) (ap verdict_of e)
       (λ ts rest h c m. subst (λ (x : ℕ). Stored (refused_line x 0) out r out') n line)
 
 -- the outcome's text

@@ -1,9 +1,9 @@
 -- A step that has passed questions 1 to 7: what its plan asks for, and question 8.
 use Prim.Native.Nat.{ℕ, ◌≤◌}
 use mathlib.Core.Path.{◌≡◌, refl, sym, ap, subst, ◌∙◌}
-use mathlib.Core.Bool.{Bool, true, false, cond, not, ◌&&◌}
-use mathlib.Core.List.{List, [], ◌∷◌}
-use lib.Dec.{eqb, leb}
+use mathlib.Core.Bool.{Bool, true, false, not, ◌&&◌}
+use mathlib.Core.List.{List}
+use lib.Dec.{leb}
 use lib.ListN.{length, get_or}
 use Rattle.limits.specs.Layout.{step_width, step_op}
 use Rattle.facts.specs.State.{Node, nodes}
@@ -24,7 +24,7 @@ use Rattle.analyze.specs.declared.Plan.{Plan}
 use Rattle.analyze.specs.declared.Hints.{Hints}
 use Rattle.analyze.specs.Plan.{operations}
 use Rattle.analyze.specs.Phases.{hints_of, active_after}
-use Rattle.analyze.specs.Analyze.{Machine, plan_of, analyze}
+use Rattle.analyze.specs.Analyze.{plan_of}
 use Rattle.analyze.specs.Ready.{Ready, StepReaches, PlanReaches}
 use Rattle.analyze.proofs.Plans.{plan_reaches}
 use Rattle.analyze.proofs.Stepping.{analyze_room}

@@ -1,11 +1,11 @@
 -- A step that was accepted: what its run and its writing ask for, and that its effect is that of `analyze`.
 use Prim.Native.Nat.{ℕ, ◌*◌, ◌≤◌}
 use mathlib.Core.Path.{◌≡◌, refl, sym, ap, subst, ◌∙◌}
-use mathlib.Core.Bool.{Bool, true, false, cond, not, ◌&&◌, ◌||◌}
+use mathlib.Core.Bool.{Bool, true, cond, not, ◌||◌}
 use mathlib.Core.List.{List}
-use mathlib.Core.Logic.{◌⊎◌, inl, inr, ⊎_elim}
+use mathlib.Core.Logic.{⊎_elim}
 use native.Mathlib.Omega.{arith}
-use lib.Dec.{eqb, leb}
+use lib.Dec.{leb}
 use lib.ListN.{length, get_or}
 use borrow.Author.Tests.{leb-true}
 use Rattle.limits.specs.Layout.{slot_width, entry_width, step_op, step_pick}
@@ -14,7 +14,6 @@ use Rattle.facts.proofs.Encode.{length_nodes}
 use Rattle.paths.specs.Represents.{Represents}
 use Rattle.paths.proofs.Frame.{shaped_encode}
 use Rattle.opcode.specs.Lists.{listed, slot_needers}
-use Rattle.labels.specs.declared.Step.{Step}
 use Rattle.labels.specs.Step.{step_of}
 use Rattle.operations.specs.Run.{run_all}
 use Rattle.head.specs.declared.Head.{Head}
@@ -27,14 +26,14 @@ use Rattle.analyze.specs.declared.InMemory.TheVariants as memory
 use Rattle.analyze.specs.declared.Plan.{Plan}
 use Rattle.analyze.specs.declared.Hints.{Hints}
 use Rattle.analyze.specs.Plan.{hint_operations, operations, loaded_path, is_array, write_stack, write_memory}
-use Rattle.analyze.specs.Phases.{hints_of, active_after}
-use Rattle.analyze.specs.Analyze.{Machine, hinted, plan_of, run_plan, analyze}
+use Rattle.analyze.specs.Phases.{active_after}
+use Rattle.analyze.specs.Analyze.{Machine, hinted, run_plan, analyze}
 use Rattle.analyze.specs.Ready.{Ready, HintsReach, PlanReaches}
 use Rattle.analyze.proofs.Proper.{Picks}
 use Rattle.analyze.proofs.Phasing.{hints_reach}
 use Rattle.analyze.proofs.Writes.{plan_stack, plan_picks}
 use Rattle.analyze.proofs.Hinted.{hinted_plan}
-use Rattle.analyze.proofs.Stepping.{hinted_size, analyze_facts, analyze_grows}
+use Rattle.analyze.proofs.Stepping.{hinted_size, analyze_facts}
 use Rattle.step.specs.declared.Ran.{Ran}
 use Rattle.step.specs.declared.Planned.{Planned}
 use Rattle.step.specs.Questions.{room_there, slot_there, step_tests}

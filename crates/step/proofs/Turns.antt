@@ -1,7 +1,7 @@
 -- Operations run in turn on a table: what the next one asks for, and what all of them come to.
 use Prim.Native.Nat.{ℕ, ◌≤◌}
 use mathlib.Core.Path.{◌≡◌, refl, sym, ap, subst, ◌∙◌}
-use mathlib.Core.Bool.{Bool, false, not, ◌&&◌}
+use mathlib.Core.Bool.{Bool, false}
 use mathlib.Core.List.{List, [], ◌∷◌}
 use mathlib.Core.Logic.{⊎_elim}
 use native.Mathlib.Omega.{arith}
@@ -12,8 +12,8 @@ use lib.ListN.{length}
 use borrow.Author.Tests.{eq-eqb, ne_eqb}
 use Rattle.limits.specs.Limits.{records_max, kind_array}
 use Rattle.facts.specs.Table.{kind_of}
-use Rattle.facts.specs.State.{Node, nodes, node_of}
-use Rattle.facts.proofs.Encode.{nodes_get, length_nodes}
+use Rattle.facts.specs.State.{Node, nodes}
+use Rattle.facts.proofs.Encode.{nodes_get}
 use Rattle.paths.specs.declared.Reached.{Reached}
 use Rattle.paths.specs.Shape.{Shaped}
 use Rattle.paths.specs.Make.{ensure}
@@ -32,7 +32,6 @@ use Rattle.analyze.specs.declared.Hints.{Hints}
 use Rattle.analyze.specs.declared.Plan.{Plan}
 use Rattle.analyze.specs.Plan.{hint_operations, operations, loaded_path, is_array}
 use Rattle.analyze.specs.Ready.{Ready, HintsReach, PlanReaches}
-use Rattle.step.specs.declared.Ran.{Ran}
 use Rattle.step.specs.Decide.{RanFirst, RanPlan}
 
 -- what is still to be run fits the table

@@ -1,7 +1,7 @@
 -- The text call: "The text call asks 10: is the list a whole number of well-formed types, at most 8,192 codes? 11: does
 -- the text fit?"; "Bytes beyond the text keep their values."
 use Rattle.std.specs.Prelude.{ℕ, ◌≤◌, ◌<◌, ◌≡◌, List, ◌++◌, length, drop}
-use Rattle.limits.specs.Refusal.{taken, number_of as refusalNumber}
+use Rattle.limits.specs.Refusal.{taken, number_of as refusal_number}
 use Rattle.limits.specs.declared.refusal.Refusal.TheVariants.{BadTypes, ShortText}
 use Rattle.types.specs.Tree.{AbiTypes}
 use Rattle.types.specs.Codes.{Passes}
@@ -18,15 +18,15 @@ over t out = t ++ drop (length t) out
 pub data Outcome (cs out : List ℕ) (number n : ℕ) (out' : List ℕ) : Type 0 where
   written : (ts : AbiTypes) → Passes ts cs → length (list_text ts) ≤ length out → number ≡ taken
       → n ≡ length (list_text ts) → out' ≡ over (list_text ts) out → Outcome cs out number n out'
-  no_types : ((ts : AbiTypes) → Passes ts cs → ⊥) → number ≡ refusalNumber BadTypes → n ≡ 0 → out' ≡ out
+  no_types : ((ts : AbiTypes) → Passes ts cs → ⊥) → number ≡ refusal_number BadTypes → n ≡ 0 → out' ≡ out
       → Outcome cs out number n out'
-  too_long : (ts : AbiTypes) → Passes ts cs → length out < length (list_text ts) → number ≡ refusalNumber ShortText
+  too_long : (ts : AbiTypes) → Passes ts cs → length out < length (list_text ts) → number ≡ refusal_number ShortText
       → n ≡ 0 → out' ≡ out → Outcome cs out number n out'
 
 -- document 01's number for each answer; the 0 of a call that is taken is ours
 abbrev pub number_of : TextAnswer → ℕ
 number_of (Written n) = taken
-number_of (Refused r) = refusalNumber r
+number_of (Refused r) = refusal_number r
 
 -- and its value
 abbrev pub length_of : TextAnswer → ℕ

@@ -13,7 +13,7 @@ use Rattle.names.specs.Decimal.{decimal}
 use Rattle.names.proofs.Decimals.{decimal_short}
 use Rattle.spell.specs.Stored.{StoredAt}
 use Rattle.spell.proofs.Stores.{stored_both}
-use Rattle.limits.specs.Refusal.{taken, number_of as refusalNumber}
+use Rattle.limits.specs.Refusal.{taken, number_of as refusal_number}
 use Rattle.limits.specs.declared.refusal.Refusal.{Refusal}
 use Rattle.limits.proofs.Refusals.{not_taken}
 use Rattle.types.specs.Tree.{AbiType, AbiTypes, nil, cons, well_formed}
@@ -69,8 +69,8 @@ module _ (k : ℕ) (cs out mid xs : List ℕ) (to i a : ℕ) (room : to + 73760 
     pub entry_refused : (out' : List ℕ) (q : Refusal) → answer ≡ Refused q → EntryStored k cs out to to out'
     entry_refused out' q e = go (subst (λ (x : TextAnswer). Outcome cs part (number_of x) (length_of x) part') e o)
       where
-        go : Outcome cs part (refusalNumber q) 0 part' → EntryStored k cs out to to out'
-        go (text-written ts p h z n w) = absurd (eqb-false (refusalNumber q) taken (not_taken q) z)
+        go : Outcome cs part (refusal_number q) 0 part' → EntryStored k cs out to to out'
+        go (text-written ts p h z n w) = absurd (eqb-false (refusal_number q) taken (not_taken q) z)
         go (text-no-types never z n w) = no_types never refl
         go (too_long ts p h z n w) = absurd (omega (arith, text_short ts p, part_long, as_long, number_near))
 

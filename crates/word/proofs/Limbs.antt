@@ -5,7 +5,7 @@ use Rattle.std.proofs.Common.{◌≡◌, ℕ, ◌+◌, ◌-◌, ◌*◌, ◌%◌
 use lib.Arith.{digits_lt, digits_mod}
 use lib.Bits.{bit_and, and_block}
 use lib.Count.{ones, ones_cat, ones-le}
-use Rattle.word.specs.Value.{value, value_of}
+use Rattle.word.specs.Value.{value}
 use Rattle.word.specs.declared.U256.{U256}
 
 -- a word stands for a number below 2^256

@@ -5,7 +5,6 @@ use mathlib.Core.Bool.{true, true≢false}
 use mathlib.Core.List.{List}
 use native.Mathlib.Omega.{arith}
 use borrow.Author.Rules.{rules}
-use borrow.Author.Tests.{not-true, not-false}
 use Rattle.limits.specs.Limits.{record_width}
 use Rattle.facts.specs.Table.{parent_of, child_of, next_of}
 use Rattle.facts.specs.Access.{HasRecord, Has}

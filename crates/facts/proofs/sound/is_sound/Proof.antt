@@ -2,7 +2,6 @@
 use mathlib.Core.Path.{◌≡◌, sym, ◌∙◌}
 use mathlib.Core.Bool.{true, true≢false}
 use borrow.Author.Rules.{rules}
-use borrow.Author.Tests.{not-true, not-false}
 use Rattle.facts.specs.Checks.{is_root}
 use Rattle.facts.proofs.Whole.{sound_chained, sound_root, sound_records, sound_zero, parts_sound}
 use Rattle.facts.proofs.sound.is_sound.Statement.{statement}

@@ -4,7 +4,6 @@ use mathlib.Core.Path.{sym, ◌∙◌}
 use native.Mathlib.Omega.{arith}
 use lib.ListN.{length}
 use borrow.Author.Rules.{rules}
-use borrow.Author.Tests.{not-true, not-false}
 use Rattle.facts.proofs.Zeros.{Zeroed, zeroed_none, zeroed_more, zero_not, zero_rest}
 use Rattle.facts.proofs.sound.is_zero_from.Statement.{statement}
 use Rattle.facts.proofs.sound.is_zero_from.Tie as tie
