@@ -1,6 +1,6 @@
 /*
  * The argument column's calls for C: the fresh call, the step, the closing and the text call of document 01. Link
- * libargcol.a, which `rt lib --cpu x86-64` in this folder writes to out/ (x86-64 Linux). From Rust, use host/argcol.
+ * libargcol.a, which host/archive writes to target/staticlib/ (x86-64 Linux). From Rust, use host/argcol.
  *
  * Numbers. Any number and any length may be handed in: what document 01 does not take is refused by its number, and a
  * refused call leaves the head and the lent slices as they were. What a call returns is that number, 0 for a call that

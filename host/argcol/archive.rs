@@ -39,7 +39,7 @@ pub fn platform(arch: &str, os: &str) -> Result<(), Vec<String>> {
 /// cargo was started, in the workspace's or at the repository's root.
 pub fn places(named: Option<&OsStr>, started: Option<&Path>, root: &Path) -> Vec<PathBuf> {
     let from = match named.map(Path::new) {
-        None => vec![root.join("crates/argcol/out")],
+        None => vec![root.join("target/staticlib")],
         Some(named) if named.is_absolute() => vec![named.into()],
         Some(named) => {
             let started = started.filter(|folder| folder.is_absolute()).map(Path::to_path_buf);
@@ -53,7 +53,7 @@ fn missing(files: &[PathBuf]) -> Vec<String> {
     let mut lines: Vec<String> =
         files.iter().map(|file| format!("the proved core is not at {}", file.display())).collect();
     lines.push(format!(
-        "run `rt lib --cpu x86-64` in the repository's crates/argcol, or let ARGCOL_ARCHIVE name the folder of {FILE}"
+        "run `host/archive` at the repository's root, or let ARGCOL_ARCHIVE name the folder of {FILE}"
     ));
     lines
 }
@@ -67,6 +67,6 @@ pub fn contents(file: &Path, bytes: &[u8]) -> Result<(), Vec<String>> {
     let file = file.display();
     Err(vec![
         format!("{file} has no function argcol_version: it is no archive of the proved core, or an old one"),
-        "run `rt lib --cpu x86-64` in the repository's crates/argcol".into(),
+        "run `host/archive` at the repository's root".into(),
     ])
 }

@@ -1,4 +1,4 @@
-//! Links the proved core: `libargcol.a` in `crates/argcol/out` of the repository, or where ARGCOL_ARCHIVE says.
+//! Links the proved core: `libargcol.a` in `target/staticlib` of the repository, or where ARGCOL_ARCHIVE says.
 
 mod archive;
 

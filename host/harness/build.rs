@@ -1,5 +1,5 @@
-//! Links the proved core if its archive is there: `crates/argcol/out/libargcol.a` of the repository (`rt lib` in
-//! crates/argcol makes it), or where ARGCOL_ARCHIVE says. An archive that was asked for by that name has to be there.
+//! Links the proved core if its archive is there: `target/staticlib/libargcol.a` of the repository
+//! (`host/archive` makes it), or where ARGCOL_ARCHIVE says. An archive that was asked for by that name has to be there.
 
 #[path = "../argcol/archive.rs"]
 mod archive;

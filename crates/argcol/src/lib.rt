@@ -38,16 +38,14 @@ pub struct Ended {
 }
 
 // The version, which a host compares with that of its header before any other call.
-#[unsafe(no_mangle)]
-pub extern "C" fn argcol_version() -> u32
+pub fn argcol_version() -> u32
     ensures { result ≡ version }
 {
     VERSION
 }
 
 // The fresh call.
-#[unsafe(no_mangle)]
-pub extern "C" fn argcol_fresh(used: &mut u32, active: &mut u32, table: &mut [u32]) -> u32
+pub fn argcol_fresh(used: &mut u32, active: &mut u32, table: &mut [u32]) -> u32
     ensures { FreshOutcome (gather used.old active.old table.old) result
         (gather used.new active.new table.new) }
 {
@@ -63,8 +61,7 @@ pub extern "C" fn argcol_fresh(used: &mut u32, active: &mut u32, table: &mut [u3
 }
 
 // The step.
-#[unsafe(no_mangle)]
-pub extern "C" fn argcol_step(
+pub fn argcol_step(
     used: &mut u32,
     active: &mut u32,
     table: &mut [u32],
@@ -93,8 +90,7 @@ pub extern "C" fn argcol_step(
 
 // The closing. The packed word is there unless flag is 0. The last four are lent for the answer's values; only a call
 // that is taken writes them.
-#[unsafe(no_mangle)]
-pub extern "C" fn argcol_closing(
+pub fn argcol_closing(
     used: &mut u32,
     active: &mut u32,
     table: &mut [u32],
@@ -135,8 +131,7 @@ pub extern "C" fn argcol_closing(
 }
 
 // The text call. The length is lent for the answer's value; only a call that is taken writes it.
-#[unsafe(no_mangle)]
-pub extern "C" fn argcol_text(codes: &[u16], out: &mut [u8], length: &mut usize) -> u32
+pub fn argcol_text(codes: &[u16], out: &mut [u8], length: &mut usize) -> u32
     ensures { TextOutcome codes.now out.old length.old result
         out.new length.new }
 {

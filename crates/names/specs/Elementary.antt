@@ -39,7 +39,7 @@ code_of (int n) = code.int + n
 code_of (fixed_bytes n) = code.fixed_bytes + n
 
 -- is the number the code of such a type? (`name_is_code`, `name_has_width`: a name is the code of a type of good width;
--- `code_is_name`: no other number is; `of_code`: of one type only)
+-- `code_is_name`: no other number is; `of_code_lem`: of one type only)
 unfoldable pub is_name : ℕ → Bool
 is_name c =
     between code.bool code.string c

@@ -1,12 +1,10 @@
 -- The text of each answer, and that it is the text of the closing's outcome.
-use Prim.Native.Nat.{ℕ, ◌+◌, ◌-◌}
+use Prim.Native.Nat.{ℕ}
 use mathlib.Core.Path.{◌≡◌, refl, sym, ap, subst}
 use mathlib.Core.Bool.{Bool, true, false}
 use mathlib.Core.List.{List}
-use native.Mathlib.Omega.{arith}
 use lib.Dec.{eqb}
 use lib.ListN.{length, drop}
-use lib.Seq.{sets}
 use borrow.Author.Tests.{eqb-true}
 use Rattle.limits.specs.Refusal.{taken, number_of as refusal_number}
 use Rattle.limits.specs.declared.refusal.Refusal.{Refusal}

@@ -11,7 +11,7 @@ use Rattle.limits.specs.Codes as code
 use Rattle.limits.specs.Limits.{word_bytes, kind_dynamic, kind_array, array_count_max, dynamic_count_max}
 use Rattle.names.specs.Elementary.{bytes, code_of, is_name}
 use Rattle.names.proofs.Codes.{name_is_code, name_some}
-use Rattle.types.specs.Tree.{AbiType, AbiTypes, elementary, array, tuple, count}
+use Rattle.types.specs.Tree.{AbiType, AbiTypes, elementary, array, count}
 use Rattle.types.specs.Codes.{codes, all_codes}
 use Rattle.facts.specs.State.{Node, node_of}
 use Rattle.facts.specs.Fact.{is_count}

@@ -13,7 +13,7 @@ fn places(named: Option<&str>, started: Option<&str>) -> Vec<String> {
 
 #[test]
 fn folders_and_files_by_absolute_and_relative_paths() {
-    assert_eq!(places(None, Some("/here")), ["/r/crates/argcol/out/libargcol.a"]);
+    assert_eq!(places(None, Some("/here")), ["/r/target/staticlib/libargcol.a"]);
     for named in ["/a/b", "/a/b/", "/a/b/libargcol.a"] {
         assert_eq!(places(Some(named), Some("/here")), ["/a/b/libargcol.a"]);
     }

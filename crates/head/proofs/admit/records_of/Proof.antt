@@ -1,6 +1,7 @@
 -- `head::admit::records_of` meets its contract.
 use mathlib.Core.Path.{sym, ap, ◌∙◌}
 use mathlib.Core.Bool.{not}
+use native.Mathlib.Omega.{arith}
 use borrow.Author.Rules.{rules}
 use Rattle.facts.proofs.Counts.{answer_is, count_counted}
 use Rattle.head.proofs.Admitting.{no_records, high_active, not_sound, admitted}
@@ -10,22 +11,19 @@ use Rattle.head.proofs.admit.records_of.Tie as tie
 returns : tie.Need-returns-in_default
 returns c = no_records _ _ _ (answer_is _ _ c.record_count-records.ensures) c.in_default.is
 
-returns_2 : tie.Need-returns-then-head-gt1
-returns_2 c = high_active _ _ _ (answer_is _ _ c.record_count-records.ensures) _ c.in-Count.is c.if-head-gt1.true
-
 is_sound_requires : tie.Need-is_sound-requires
 is_sound_requires c κs = count_counted _ _ (sym (answer_is _ _ c.record_count-records.ensures) ∙ c.in-Count.is)
 
-returns_3 : tie.Need-returns-then-not-is_sound
-returns_3 c =
+returns_2 : tie.Need-returns-then-not-is_sound
+returns_2 c =
     not_sound _ _ _ (answer_is _ _ c.record_count-records.ensures) _ c.in-Count.is c.is_sound.result c.is_sound.ensures
     (ap not c.if-not-is_sound.true)
 
-returns_4 : tie.Need-returns
-returns_4 c =
+returns_3 : tie.Need-returns
+returns_3 c =
     admitted _ _ _ (answer_is _ _ c.record_count-records.ensures) _ c.in-Count.is c.is_sound.result c.is_sound.ensures
     (ap not c.if-not-is_sound.false)
-    c.if-head-gt1.false
+    (omega arith)
 
 pub records_of_spec : {M : Type 1} → statement M
 records_of_spec =
@@ -35,7 +33,7 @@ records_of_spec =
     (λ c. search rules)
     (λ c. search rules)
     returns
-    returns_2
+    (λ c. high_active _ _ _ (answer_is _ _ c.record_count-records.ensures) _ c.in-Count.is (omega arith))
     is_sound_requires
-    returns_3
-    returns_4)
+    returns_2
+    returns_3)
