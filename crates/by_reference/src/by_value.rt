@@ -1,4 +1,4 @@
-// The head by value again, around the thin functions: whoever calls these needs no walk by hand.
+// The head by value again, around the thin functions, for programs that hold it by value.
 ghost use Rattle.head.specs.Held.{held};
 ghost use Rattle.step.specs.Call.{Outcome, lend, number_of};
 ghost use Rattle.closing.specs.Words.{hand};
