@@ -1,5 +1,6 @@
 -- The refusals in the order of the papers: "the first "no" gives its number".
-use Rattle.std.specs.Prelude.{ℕ}
+use Rattle.std.specs.Prelude.{ℕ, Ok, Err}
+use Rattle.std.specs.declared.result.Result.{Result}
 use Rattle.limits.specs.declared.refusal.Refusal.{Refusal}
 use Rattle.limits.specs.declared.refusal.Refusal.TheVariants.{NoRecords, Unsound, LongCode, BrokenSizes}
 use Rattle.limits.specs.declared.refusal.Refusal.TheVariants.{BrokenLabels, BrokenFields, NoSlot, NoRoom}
@@ -33,3 +34,8 @@ number_of ShortTypes = 9
 number_of BadTypes = 10
 -- "does the text fit?"
 number_of ShortText = 11
+
+-- and each answer of a call: the refusal's number, or that of a call that is taken
+abbrev pub answer_number : {A : Type 0} → Result A Refusal → ℕ
+answer_number (Ok value) = taken
+answer_number (Err refusal) = number_of refusal

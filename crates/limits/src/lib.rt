@@ -9,7 +9,7 @@ pub mod input;
 pub mod layout;
 mod refusal;
 
-pub use refusal::{Refusal, TAKEN, number_of};
+pub use refusal::{Refusal, TAKEN, answer_number};
 
 // Bytes of an EVM word. Keys, offsets and multipliers count in bytes, arguments and counts in words.
 pub const WORD_BYTES: u32 = 32;

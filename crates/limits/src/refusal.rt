@@ -1,41 +1,41 @@
 // Which question was answered with no.
 ghost use Rattle.std.specs.Prelude.{◌≡◌};
-ghost use Rattle.limits.specs.Refusal.{number_of};
+ghost use Rattle.limits.specs.Refusal.{number_of, answer_number};
 
 // The number of a call that is taken, which is ours.
 pub const TAKEN: u32 = 0;
 
 // The questions in the order of their numbers, each by what a "no" says.
-#[derive(Clone, Copy)]
+#[derive(Clone, Copy, Debug, PartialEq, Eq)]
 pub enum Refusal {
-    NoRecords,
-    Unsound,
-    LongCode,
-    BrokenSizes,
-    BrokenLabels,
-    BrokenFields,
-    NoSlot,
-    NoRoom,
-    ShortTypes,
-    BadTypes,
-    ShortText,
+    NoRecords = 1,
+    Unsound = 2,
+    LongCode = 3,
+    BrokenSizes = 4,
+    BrokenLabels = 5,
+    BrokenFields = 6,
+    NoSlot = 7,
+    NoRoom = 8,
+    ShortTypes = 9,
+    BadTypes = 10,
+    ShortText = 11,
 }
 
 // Document 01's number: "the first "no" gives its number".
-pub fn number_of(refusal: Refusal) -> u32
-    ensures { result ≡ number_of refusal }
+impl From<Refusal> for u32 {
+    ghost from_gives = { λ refusal number. number ≡ number_of refusal };
+
+    fn from(refusal: Refusal) -> u32 {
+        refusal as u32
+    }
+}
+
+// The same for the answer of a call, 0 where it is taken.
+pub fn answer_number<T>(answer: &Result<T, Refusal>) -> u32
+    ensures { result ≡ answer_number answer.now }
 {
-    match refusal {
-        Refusal::NoRecords => 1,
-        Refusal::Unsound => 2,
-        Refusal::LongCode => 3,
-        Refusal::BrokenSizes => 4,
-        Refusal::BrokenLabels => 5,
-        Refusal::BrokenFields => 6,
-        Refusal::NoSlot => 7,
-        Refusal::NoRoom => 8,
-        Refusal::ShortTypes => 9,
-        Refusal::BadTypes => 10,
-        Refusal::ShortText => 11,
+    match answer {
+        Ok(_) => TAKEN,
+        Err(refusal) => u32::from(*refusal),
     }
 }
