@@ -22,7 +22,7 @@ use Rattle.facts.specs.Links.{Kid, In, Seg, Rising, ChainOf}
 use Rattle.facts.specs.Linked.{Chained, First}
 use Rattle.facts.specs.Checks.{is_record, is_under_seen, is_root, AreRecords}
 use Rattle.facts.specs.Checks.{Tells}
-use Rattle.facts.specs.Weights.{link_weight, weight_end, weight, link_to, Leads, Under}
+use Rattle.facts.specs.Weights.{link_weight, weight_end, weight, link_to, Leads, Under, Fits, Added as AddedBy}
 
 -- what the link to the one behind r weighs
 abbrev pub onward : List ℕ → ℕ → ℕ
@@ -33,20 +33,13 @@ pub firsts : List ℕ → ℕ → ℕ
 firsts t zero = 0
 firsts t (suc n) = firsts t n + link_to t (child_of t (suc n))
 
--- what the pass asks of a record other than the root
-pub record Fits (t : List ℕ) (u r : ℕ) : Type 0 where
-  pub under : Under t r
-  pub fact : is_record (node_at t r) ≡ true
-  pub child : Leads t u r 0 (child_of t r)
-  pub next : Leads t u (parent_of t r) (weight t r) (next_of t r)
-  pub light : onward t r < weight_end
-
 -- before record r: those before it fit, their links and the records themselves are added up
 pub record Added (t : List ℕ) (u r links records : ℕ) : Type 0 where
   pub low : 2 ≤ r
   pub high : r ≤ u + 1
   pub root : Leads t u 1 0 (child_of t 1)
   pub fits : (q : ℕ) → 1 < q → q < r → Fits t u q
+  pub light : (q : ℕ) → 1 < q → q < r → onward t q < weight_end
   pub links_are : links ≡ firsts t (r - 1) + total (onward t) (span (r - 2))
   pub records_are : records ≡ total (weight t) (span (r - 2))
   pub links_end : links ≤ r * (2 * weight_end)
@@ -59,16 +52,20 @@ added_start t u w h C e l = record {
   high = omega arith;
   root = C;
   fits = λ q a b. absurd (omega arith);
+  light = λ q a b. absurd (omega arith);
   links_are = omega arith;
   records_are = refl;
   links_end = omega arith;
   records_end = omega arith;
 }
 
-pub added_more : (t : List ℕ) (u r links records c n w : ℕ) → Added t u r links records → r ≤ u → Fits t u r → c ≡ links + link_to t (child_of t r)
-    → c < links + weight_end → n ≡ c + onward t r → w ≡ weight t r → w < weight_end → Added t u (r + 1) n (records + w)
+pub added_more : (t : List ℕ) (u r links records n w : ℕ) → Added t u r links records → r ≤ u → Fits t u r
+    → AddedBy n t r links → w ≡ weight t r → w < weight_end → Added t u (r + 1) n (records + w)
 unfolding firsts total span
-added_more t u r links records c n w A h F ce cl ne we wl =
+added_more t u r links records n w A h F B we wl =
+    let sum = B.sum in
+    let ce = B.child_end in
+    let ne = B.next_end in
     let lo = A.low in
     let le = A.links_are in
     let re = A.records_are in
@@ -81,9 +78,10 @@ added_more t u r links records c n w A h F ce cl ne we wl =
       high = omega arith;
       root = A.root;
       fits = λ q q1 ql. ⊎_elim (λ (e : q ≡ r). rw e F) (λ (l : q < r). A.fits q q1 l) (eq-or-lt_of_le (let z = ql in omega arith));
+      light = λ q q1 ql. ⊎_elim (λ (e : q ≡ r). rw e ne) (λ (l : q < r). A.light q q1 l) (eq-or-lt_of_le (let z = ql in omega arith));
       links_are = rw (a, b, d, g) (omega arith);
       records_are = rw (a, g) (omega arith);
-      links_end = let i = A.links_end in let k = F.light in omega arith;
+      links_end = let i = A.links_end in omega arith;
       records_end = let i = A.records_end in omega arith;
     }
 
@@ -348,7 +346,7 @@ module _ (t : List ℕ) (u links records : ℕ) (h : 1 ≤ u) (m : u ≤ records
           let a : u + 1 - 1 ≡ u = omega arith in
           let b : u + 1 - 2 ≡ u - 1 = omega arith in
           let v = parts_weigh t u chains h links records (rw (a, b) at l) (rw b at q) in
-          none_left t P.rest (omega arith) (λ y i. let g = in_rest y i in (fits y g.0 g.1).light) rises (omega arith)
+          none_left t P.rest (omega arith) (λ y i. let g = in_rest y i in A.light y g.0 (let z = g.1 in omega arith)) rises (omega arith)
 
       met : (r : ℕ) → 1 < r → r ≤ u → In r M.met
       met r r1 ru =
@@ -417,13 +415,21 @@ module _ (t : List ℕ) (u : ℕ) (C : Chained t u) where
       let g = C.up r r1 ru in
       (chained_linked t u C).next (parent_of t r) r g.0 (record { above = g.1; used = ru; parent = refl })
 
-  pub chained_next : (r : ℕ) → 1 < r → r ≤ u → Leads t u (parent_of t r) (weight t r) (next_of t r)
+  chained_next : (r : ℕ) → 1 < r → r ≤ u → Leads t u (parent_of t r) (weight t r) (next_of t r)
   chained_next r r1 ru n =
       let F = after r r1 ru in
       let k = F.kid n in
       (k.used, k.parent, key_weight t r (next_of t r) (let f = F.from n in omega arith))
 
-  pub chained_under : AreRecords t u → (r : ℕ) → 1 < r → r ≤ u → Under t r
+  chained_under : AreRecords t u → (r : ℕ) → 1 < r → r ≤ u → Under t r
   chained_under A r r1 ru =
       let g = C.up r r1 ru in
       record { from = g.0; above = g.1; seen = under_seen_le t r (A.fact r (omega arith) ru) (A.under_seen r r1 ru) }
+
+  pub chained_fits : AreRecords t u → (r : ℕ) → 1 < r → r ≤ u → Fits t u r
+  chained_fits A r r1 ru = record {
+    under = chained_under A r r1 ru;
+    fact = A.fact r (omega arith) ru;
+    child = chained_child r (omega arith) ru;
+    next = chained_next r r1 ru;
+  }

@@ -5,8 +5,8 @@ use mathlib.Core.List.{List}
 use native.Mathlib.Omega.{arith}
 use borrow.Author.Tests.{eq-eqb, ne_eqb}
 use Rattle.facts.specs.Table.{key_of, parent_of}
-use Rattle.facts.specs.declared.Link.{Link}
-use Rattle.facts.specs.declared.Link.TheVariants.{Weight, Refused}
+use Rattle.std.specs.Prelude.{Some, None}
+use Rattle.std.specs.declared.option.Option.{Option}
 use Rattle.facts.specs.Weights.{link_weight, weight_end, weight, link_to, Leads, Weighs}
 
 module _ (t : List ℕ) (c : ℕ) where
@@ -35,19 +35,19 @@ module _ (t : List ℕ) (u p b c : ℕ) (n : c ≡ 0 → ⊥) where
 
 -- a link that is added to the others
 module _ (t : List ℕ) (u p b c x : ℕ) where
-  pub lead_none : c ≡ 0 → Weighs (Weight x) (Leads t u p b c) t c x
+  pub lead_none : c ≡ 0 → Weighs (Some x) (Leads t u p b c) t c x
   lead_none z = let e = link_none t c z in ((λ n. absurd (n z)), omega arith, omega arith)
 
   pub lead_some : (c ≡ 0 → ⊥) → c ≤ u → (v : ℕ) → v ≡ parent_of t c → v ≡ p → (w : ℕ) → w ≡ weight t c → w < weight_end → b < w
-      → Weighs (Weight (x + w)) (Leads t u p b c) t c x
+      → Weighs (Some (x + w)) (Leads t u p b c) t c x
   lead_some n l v e d w q h k =
       let s = link_some t c n in
       ((λ _. (l, sym e ∙ d, omega arith)), omega arith, omega arith)
 
 -- what each answer says of a link to the number that was read
-module _ (l : Link) (t : List ℕ) (u p q b a c d x : ℕ) (W : Weighs l (Leads t u p b c) t c x) (e : p ≡ q) (g : b ≡ a) (f : c ≡ d) where
-  pub led : (w : ℕ) → l ≡ Weight w → Leads t u q a d × (w ≡ x + link_to t d) × (w < x + weight_end)
-  led w h = rw (← e, ← g, ← f) (subst (λ (y : Link). Weighs y (Leads t u p b c) t c x) h W)
+module _ (l : Option ℕ) (t : List ℕ) (u p q b a c d x : ℕ) (W : Weighs l (Leads t u p b c) t c x) (e : p ≡ q) (g : b ≡ a) (f : c ≡ d) where
+  pub led : (w : ℕ) → l ≡ Some w → Leads t u q a d × (w ≡ x + link_to t d) × (w < x + weight_end)
+  led w h = rw (← e, ← g, ← f) (subst (λ (y : Option ℕ). Weighs y (Leads t u p b c) t c x) h W)
 
-  pub not_led : l ≡ Refused → Leads t u q a d → ⊥
-  not_led h = rw (← e, ← g, ← f) (subst (λ (y : Link). Weighs y (Leads t u p b c) t c x) h W)
+  pub not_led : l ≡ None → Leads t u q a d → ⊥
+  not_led h = rw (← e, ← g, ← f) (subst (λ (y : Option ℕ). Weighs y (Leads t u p b c) t c x) h W)

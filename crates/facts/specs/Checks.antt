@@ -1,13 +1,14 @@
 -- Questions 1 and 2 as the code's tests ask them. In these words one function promises another; no outcome is written
 -- with them.
-use Rattle.std.specs.Prelude.{ℕ, ◌/◌, ◌≤◌, ◌<◌, ◌≡◌, Bool, true, ◌&&◌, ◌||◌, false, cond, List, eqb}
+use Rattle.std.specs.Prelude.{ℕ, ◌/◌, ◌≤◌, ◌<◌, ◌≡◌, Bool, true, ◌&&◌, ◌||◌, false, cond, List, eqb, Ok, Err}
+use Rattle.std.specs.declared.result.Result.{Result}
+use Rattle.limits.specs.declared.refusal.Refusal.{Refusal}
+use Rattle.limits.specs.declared.refusal.Refusal.TheVariants.{NoRecords}
 use Rattle.facts.specs.Table.{key_of, parent_of, next_of, seen_of, not_bool_of}
 use Rattle.facts.specs.State.{Node, node_at}
 use Rattle.facts.specs.Fact.{are_flags, is_bare, is_bare_unseen, is_kind, is_confidence, is_count, is_named}
 use Rattle.limits.specs.Limits.{record_width}
 use Rattle.facts.specs.Count.{has_records}
-use Rattle.facts.specs.declared.Records.{Records}
-use Rattle.facts.specs.declared.Records.TheVariants.{Count, Unfit}
 
 -- a record's own tests, all in one: of every used record, seen or not
 unfoldable pub is_record : Node → Bool
@@ -33,6 +34,6 @@ abbrev pub Tells : Bool → Type 0 → Type 0
 Tells true P = P
 Tells false P = P → ⊥
 
--- how many records a table of so many numbers has; `Unfit` is the answer "no"
-unfoldable pub record_count : ℕ → Records
-record_count numbers = cond (has_records numbers) (Count (numbers / record_width)) Unfit
+-- how many records a table of so many numbers has, or the answer "no"
+unfoldable pub record_count : ℕ → Result ℕ Refusal
+record_count numbers = cond (has_records numbers) (Ok (numbers / record_width)) (Err NoRecords)

@@ -1,9 +1,10 @@
 -- What question 2's test of the chains adds up: records and the links that lead to them, each link as much as its
 -- record. `weighed_chained` shows that the links lead to every record but the root just where both sides are equal.
-use Rattle.std.specs.Prelude.{ℕ, ◌+◌, ◌^◌, ◌≤◌, ◌<◌, ◌≡◌, cond, List, eqb}
-use Rattle.facts.specs.Table.{key_of, parent_of, seen_of}
-use Rattle.facts.specs.declared.Link.{Link}
-use Rattle.facts.specs.declared.Link.TheVariants.{Weight, Refused}
+use Rattle.std.specs.Prelude.{ℕ, ◌+◌, ◌*◌, ◌^◌, ◌≤◌, ◌<◌, ◌≡◌, true, cond, List, eqb, Some, None}
+use Rattle.std.specs.declared.option.Option.{Option}
+use Rattle.facts.specs.Table.{key_of, parent_of, child_of, next_of, seen_of}
+use Rattle.facts.specs.State.{node_at}
+use Rattle.facts.specs.Checks.{is_record}
 
 -- more than all keys of a table together
 abbrev pub link_weight : ℕ
@@ -32,7 +33,24 @@ pub record Under (t : List ℕ) (r : ℕ) : Type 0 where
   pub above : parent_of t r < r
   pub seen : seen_of t r ≤ seen_of t (parent_of t r)
 
+-- what the pass asks of a record other than the root
+pub record Fits (t : List ℕ) (u r : ℕ) : Type 0 where
+  pub under : Under t r
+  pub fact : is_record (node_at t r) ≡ true
+  pub child : Leads t u r 0 (child_of t r)
+  pub next : Leads t u (parent_of t r) (weight t r) (next_of t r)
+
 -- the answer for a link to c, which is added to the others where P holds
-abbrev pub Weighs : Link → Type 0 → List ℕ → ℕ → ℕ → Type 0
-Weighs (Weight w) P t c links = P × (w ≡ links + link_to t c) × (w < links + weight_end)
-Weighs Refused P t c links = P → ⊥
+abbrev pub Weighs : Option ℕ → Type 0 → List ℕ → ℕ → ℕ → Type 0
+Weighs (Some w) P t c links = P × (w ≡ links + link_to t c) × (w < links + weight_end)
+Weighs None P t c links = P → ⊥
+
+-- the answer for the record r, whose two links are added to the others where it fits
+pub record Added (w : ℕ) (t : List ℕ) (r links : ℕ) : Type 0 where
+  pub sum : w ≡ links + link_to t (child_of t r) + link_to t (next_of t r)
+  pub child_end : link_to t (child_of t r) < weight_end
+  pub next_end : link_to t (next_of t r) < weight_end
+
+abbrev pub Adds : Option ℕ → List ℕ → ℕ → ℕ → ℕ → Type 0
+Adds (Some w) t u r links = Fits t u r × Added w t r links
+Adds None t u r links = Fits t u r → ⊥

@@ -1,23 +1,23 @@
 // Question 1.
 ghost use Rattle.facts.specs.Count.{CountAnswer};
-ghost use Rattle.facts.specs.Fresh.{number_of, count_of};
+ghost use Rattle.facts.specs.Fresh.{count_of};
+ghost use Rattle.limits.specs.Refusal.{answer_number};
 
-use crate::Records;
-use limits::{RECORD_WIDTH, RECORDS_MAX};
+use limits::{RECORD_WIDTH, RECORDS_MAX, Refusal};
 
 // How many records a table of so many numbers has.
-pub fn record_count(numbers: usize) -> Records
-    ensures { CountAnswer numbers (number_of result) (count_of result) }
+pub fn record_count(numbers: usize) -> Result<u32, Refusal>
+    ensures { CountAnswer numbers (answer_number result) (count_of result) }
 {
     if numbers % RECORD_WIDTH != 0 {
-        return Records::Unfit;
+        return Err(Refusal::NoRecords);
     }
     let count = numbers / RECORD_WIDTH;
     if count < 1 {
-        return Records::Unfit;
+        return Err(Refusal::NoRecords);
     }
     if (RECORDS_MAX as usize) < count {
-        return Records::Unfit;
+        return Err(Refusal::NoRecords);
     }
-    Records::Count(count as u32)
+    Ok(count as u32)
 }

@@ -10,19 +10,5 @@ mod table;
 
 pub use count::record_count;
 pub use sound::is_sound;
-pub use start::{fresh, number_of};
+pub use start::fresh;
 pub use table::{field, set_field};
-
-// The answer of question 1.
-#[derive(Clone, Copy)]
-pub enum Records {
-    Count(u32),
-    Unfit,
-}
-
-// A link of a record, as question 2 weighs it.
-#[derive(Clone, Copy)]
-pub enum Link {
-    Weight(u64),
-    Refused,
-}

@@ -5,9 +5,8 @@ ghost use Rattle.facts.specs.Access.{HasRecord};
 ghost use Rattle.facts.specs.Linked.{Chained};
 ghost use Rattle.facts.specs.Checks.{is_root, AreRecords};
 ghost use Rattle.facts.specs.Checks.{Tells};
-ghost use Rattle.facts.specs.Weights.{weight, weight_end, Leads, Under, Weighs};
+ghost use Rattle.facts.specs.Weights.{weight, weight_end, Leads, Under, Weighs, Adds};
 
-use crate::Link;
 use crate::fact::is_record;
 use crate::table::field;
 use limits::fields::{CHILD, KEY, NEXT, PARENT, SEEN};
@@ -43,25 +42,43 @@ fn weight_of(table: &[u32], r: u32) -> u64
 
 // What links of that weight come to with one more, to record c, 0 for none, which stands in the chain of p behind one
 // that weighs so much. That its number is higher than its parent's is asked of each record by itself.
-fn with_link(table: &[u32], used: u32, p: u32, before: u64, c: u32, links: u64) -> Link
+fn with_link(table: &[u32], used: u32, p: u32, before: u64, c: u32, links: u64) -> Option<u64>
     requires record_width_in_bounds { used * record_width ≤ length table.now }
     requires weight_end_bound { links + weight_end ≤ 2 ^ 64 }
     ensures { Weighs result (Leads table.now used p before c) table.now c links }
 {
     if c == 0 {
-        return Link::Weight(links);
+        return Some(links);
     }
     if used < c {
-        return Link::Refused;
+        return None;
     }
     if field(table, c, PARENT) != p {
-        return Link::Refused;
+        return None;
     }
     let weight = weight_of(table, c);
     if weight <= before {
-        return Link::Refused;
+        return None;
     }
-    Link::Weight(links + weight)
+    Some(links + weight)
+}
+
+// The same with both links of record r, if its parent is below it and its own fields pass their tests.
+fn with_record(table: &[u32], used: u32, r: u32, links: u64) -> Option<u64>
+    requires record_width_in_bounds { (1 < r) × (r ≤ used) × (used * record_width ≤ length table.now) }
+    requires weight_end_bound { links + 2 * weight_end ≤ 2 ^ 64 }
+    ensures { Adds result table.now used r links }
+{
+    if !is_under(table, r) {
+        return None;
+    }
+    let down = with_link(table, used, r, 0, field(table, r, CHILD), links)?;
+    let own = weight_of(table, r);
+    let on = with_link(table, used, field(table, r, PARENT), own, field(table, r, NEXT), down)?;
+    if !is_record(table, r) {
+        return None;
+    }
+    Some(on)
 }
 
 // Does each used record but the root stand once in the chain of its parent, and nothing else in a chain, and do all
@@ -74,32 +91,16 @@ pub fn are_chained_records(table: &[u32], used: u32) -> bool
     requires table_value { is_root table.now ≡ true }
     ensures { Tells result (Chained table.now used × AreRecords table.now used) }
 {
-    let Link::Weight(first) = with_link(table, used, 1, 0, field(table, 1, CHILD), 0) else {
+    let Some(mut links) = with_link(table, used, 1, 0, field(table, 1, CHILD), 0) else {
         return false;
     };
-    let mut links = first;
     let mut records: u64 = 0;
-    let mut r: u32 = 2;
-    while r <= used {
-        if !is_under(table, r) {
-            return false;
-        }
-        let child = field(table, r, CHILD);
-        let Link::Weight(down) = with_link(table, used, r, 0, child, links) else {
+    for r in 2..used + 1 {
+        let Some(on) = with_record(table, used, r, links) else {
             return false;
         };
-        let own = weight_of(table, r);
-        let p = field(table, r, PARENT);
-        let next = field(table, r, NEXT);
-        let Link::Weight(on) = with_link(table, used, p, own, next, down) else {
-            return false;
-        };
-        if !is_record(table, r) {
-            return false;
-        }
         links = on;
-        records += own;
-        r += 1;
+        records += weight_of(table, r);
     }
     links == records
 }
