@@ -99,6 +99,11 @@ module _ (t : List ℕ) (u p k : ℕ) (L : Linked t u) (p1 : 1 ≤ p) (pu : p �
         prev_low = λ _. refl;
       }
 
+  -- the one behind is a child too, unless there is none
+  pub kid_behind : (prev c : ℕ) → Before t u p k prev → (prev ≡ 0 → c ≡ child_of t p) → ((prev ≡ 0 → ⊥) → c ≡ next_of t prev)
+      → (c ≡ 0 → ⊥) → Kid t u p c
+  kid_behind prev c B e q n = (spotting_start prev c B e q).at.first.kid n
+
   pub spotting_next : (prev c c' : ℕ) → Spotting t u p k prev c → (c ≡ 0 → ⊥) → key_of t c < k → c' ≡ next_of t c → Spotting t u p k c c'
   spotting_next prev c c' S n lt e =
       let K = S.at.first.kid n in

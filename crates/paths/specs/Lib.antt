@@ -10,3 +10,4 @@ pub mod Adds
 pub mod Path
 pub mod Looking
 pub mod Changes
+pub mod Lent

@@ -1,53 +1,47 @@
 // Looking a path up.
-ghost use Rattle.std.specs.Prelude.{◌≡◌, ◌≤◌};
-ghost use Rattle.facts.specs.Table.{parent_of};
-ghost use Rattle.facts.specs.Linked.{Linked};
-ghost use Rattle.facts.specs.State.{nodes};
-ghost use Rattle.paths.specs.Find.{find_in, get_mut};
-ghost use Rattle.paths.specs.Adds.{missing};
-ghost use Rattle.paths.specs.Shape.{Shaped};
+ghost use Rattle.std.specs.Prelude.{◌≡◌, ◌≤◌, IfSome};
+ghost use Rattle.std.specs.Option.{unwrap_or};
 
-use crate::insert::{find_at, place};
-use facts::field;
+use crate::Facts;
 use limits::fields::SEEN;
 
-// The child of parent with that key, 0 if there is none: it stands at the first key of the chain that is not lower, or
-// nowhere.
-pub fn find_child(table: &[u32], used: u32, parent: u32, key: u32) -> u32
-    requires linked { Linked table.now used }
-    requires table_value { parent_of table.now 1 ≡ 0 }
-    requires le_parent { (1 ≤ parent) × (parent ≤ used) }
-    ensures { (result ≡ find_in (nodes table.now used) parent key) × (result ≤ used) }
-{
-    let spot = place(table, used, parent, key, 0);
-    find_at(table, used, parent, key, spot.prev, spot.next)
-}
+impl Facts<'_> {
+    ghost use Rattle.paths.specs.Find.{find_in, get_mut};
+    ghost use Rattle.paths.specs.Adds.{missing};
+    ghost use Rattle.paths.specs.Lent.{facts_of};
 
-// The Rust's `get_mut`: the child of p with the key k if it is seen, 0 if there is none such.
-pub fn get_mut(table: &[u32], n: u32, used: u32, p: u32, k: u32) -> u32
-    requires shaped { Shaped table.now used n }
-    requires le_p { (1 ≤ p) × (p ≤ used) }
-    ensures { (result ≡ get_mut (nodes table.now used) p k) × (result ≤ used) }
-{
-    let c = find_child(table, used, p, k);
-    if c == 0 {
-        return 0;
+    // The child of parent with that key: it stands at the first key of the chain that is not lower, or nowhere.
+    pub fn find_child(&self, parent: u32, key: u32) -> Option<u32>
+        requires { (1 ≤ parent) × (parent ≤ self.now.used) }
+        ensures value { unwrap_or result 0 ≡ find_in (facts_of self.now) parent key }
+        ensures used { IfSome result (λ c. (1 ≤ c) × (c ≤ self.now.used)) }
+    {
+        let spot = self.place(parent, key, 0);
+        self.find_at(parent, key, spot)
     }
-    if field(table, c, SEEN) == 1 {
-        return c;
-    }
-    0
-}
 
-// How many paths `ensure_child` would add, 0 or 1.
-pub fn missing(table: &[u32], used: u32, parent: u32, key: u32) -> u32
-    requires linked { Linked table.now used }
-    requires table_value { parent_of table.now 1 ≡ 0 }
-    requires le_parent { (1 ≤ parent) × (parent ≤ used) }
-    ensures { (result ≡ missing (nodes table.now used) parent key) × (result ≤ 1) }
-{
-    if find_child(table, used, parent, key) == 0 {
-        return 1;
+    // The child of p with the key k, if it is seen.
+    pub fn get_mut(&self, p: u32, k: u32) -> Option<u32>
+        requires { (1 ≤ p) × (p ≤ self.now.used) }
+        ensures value { unwrap_or result 0 ≡ get_mut (facts_of self.now) p k }
+        ensures used { IfSome result (λ c. (1 ≤ c) × (c ≤ self.now.used)) }
+    {
+        let c = self.find_child(p, k)?;
+        if self.field(c, SEEN) == 1 {
+            Some(c)
+        } else {
+            None
+        }
     }
-    0
+
+    // How many paths `ensure_child` would add, 0 or 1.
+    pub fn missing(&self, parent: u32, key: u32) -> u32
+        requires { (1 ≤ parent) × (parent ≤ self.now.used) }
+        ensures { (result ≡ missing (facts_of self.now) parent key) × (result ≤ 1) }
+    {
+        match self.find_child(parent, key) {
+            Some(_) => 0,
+            None => 1,
+        }
+    }
 }

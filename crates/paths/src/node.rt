@@ -1,19 +1,29 @@
-// One field of one node.
-ghost use Rattle.std.specs.Prelude.{◌<◌, ◌≤◌};
-ghost use Rattle.limits.specs.Limits.{record_width};
-ghost use Rattle.limits.specs.Fields as field;
-ghost use Rattle.facts.specs.State.{nodes};
-ghost use Rattle.paths.specs.Shape.{Shaped};
-ghost use Rattle.paths.specs.Update.{update};
-ghost use Rattle.paths.specs.Represents.{Represents};
+// One field of one record.
+ghost use Rattle.std.specs.Prelude.{◌≡◌, ◌<◌, ◌≤◌};
 
-use facts::set_field;
+use crate::Facts;
+use facts::{field, set_field};
 
-// Stores v at field f, which is no link, of record r.
-pub fn store(table: &mut [u32], n: u32, used: u32, r: u32, f: usize, v: u32)
-    requires shaped { Shaped table.old used n }
-    requires le_r { (1 ≤ r) × (r ≤ used) × (field.seen ≤ f) × (f < record_width) }
-    ensures { Represents table.new used n (update (nodes table.old used) r f v) }
-{
-    set_field(table, r, f, v);
+impl Facts<'_> {
+    ghost use Rattle.limits.specs.Limits.{record_width};
+    ghost use Rattle.limits.specs.Fields as field;
+    ghost use Rattle.facts.specs.Table.{fld};
+    ghost use Rattle.paths.specs.Update.{update};
+    ghost use Rattle.paths.specs.Lent.{facts_of, Becomes};
+
+    // Field f of record r.
+    pub fn field(&self, r: u32, f: usize) -> u32
+        requires { (1 ≤ r) × (r ≤ self.now.used) × (f < record_width) }
+        ensures { result ≡ fld self.now.table.now r f }
+    {
+        field(self.table, r, f)
+    }
+
+    // Stores v at field f, which is no link, of record r.
+    pub fn store(&mut self, r: u32, f: usize, v: u32)
+        requires { (1 ≤ r) × (r ≤ self.old.used) × (field.seen ≤ f) × (f < record_width) }
+        ensures { Becomes self.old self.new (update (facts_of self.old) r f v) }
+    {
+        set_field(self.table, r, f, v);
+    }
 }

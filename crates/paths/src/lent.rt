@@ -1,0 +1,14 @@
+// The facts of a lent table.
+ghost use Rattle.std.specs.Prelude.{◌≤◌};
+ghost use Rattle.limits.specs.Limits.{records_max};
+ghost use Rattle.paths.specs.Shape.{Shaped};
+
+// The table holds the facts in its first `used` records, of `records` in all.
+#[derive(Drop)]
+pub struct Facts<'a> {
+    pub table: &'a mut [u32],
+    pub records: u32,
+    pub used: u32,
+    ghost shaped: { Shaped table.now used records },
+    ghost most: { records ≤ records_max },
+}
