@@ -146,3 +146,7 @@ stored t u N r f v S r1 ru f3 fl = record {
   };
   state = nodes_put t u r f v r1 ru S.linked.whole (omega arith) fl;
 }
+
+-- what a table says of a record is its node
+pub read : (t : List ℕ) (u r : ℕ) → 1 ≤ r → r ≤ u → node_at t r ≡ node_of (nodes t u) r
+read t u r r1 ru = sym (nodes_get t u r r1 ru)
