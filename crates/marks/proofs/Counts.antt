@@ -68,13 +68,13 @@ alike_mark_not_bool s p k =
     alike_trans (ensure s p k).state (ensure (drop_bool s p k) p k).state (insert_not_bool (drop_bool s p k) p k)
     (alike_ensure s (drop_bool s p k) p k (alike_drop_bool s p k)) (alike_insert_not_bool (drop_bool s p k) p k)
 
-pub alike_clear : (s : List Node) (r block : ℕ) → Alike s (clear_at s r block)
+pub alike_clear : (s : List Node) (r : ℕ) (block : Bool) → Alike s (clear_at s r block)
 alike_clear s r block =
-    let s' = update s r field.blocked (max (node_of s r).blocked block) in
-    let A = alike_update s r field.blocked (max (node_of s r).blocked block) in
+    let s' = update s r field.blocked (max (node_of s r).blocked (cond block 1 0)) in
+    let A = alike_update s r field.blocked (max (node_of s r).blocked (cond block 1 0)) in
     alike_cond s (is_range (node_of s r)) (drop_name s' r) s' (alike_trans s s' (drop_name s' r) A (alike_drop_name s' r)) A
 
-pub alike_clear_range_hint : (s : List Node) (p k block : ℕ) → Alike s (clear_range_hint s p k block)
+pub alike_clear_range_hint : (s : List Node) (p k : ℕ) (block : Bool) → Alike s (clear_range_hint s p k block)
 unfolding clear_range_hint
 alike_clear_range_hint s p k block =
     alike_cond s (eqb (get_mut s p k) 0) s (clear_at s (get_mut s p k) block) (alike_refl s) (alike_clear s (get_mut s p k) block)
@@ -90,5 +90,5 @@ module _ (s : List Node) (p k : ℕ) where
   pub adds_mark_not_bool : AddsPath s p k (mark_not_bool s p k)
   adds_mark_not_bool = alike_adds s p k (mark_not_bool s p k) (alike_mark_not_bool s p k)
 
-  pub same_clear_range_hint : (block : ℕ) → SamePaths s (clear_range_hint s p k block)
+  pub same_clear_range_hint : (block : Bool) → SamePaths s (clear_range_hint s p k block)
   same_clear_range_hint block = alike_same s (clear_range_hint s p k block) (alike_clear_range_hint s p k block)

@@ -1,6 +1,5 @@
 pub mod NameLaws
 pub mod MarkLaws
-pub mod HintLaws
 pub mod BelowLaws
 pub mod WalkLaws
 pub mod Counts

@@ -128,10 +128,15 @@ module _ (s : List Node) (r : ℕ) (F : Formed s) (r1 : 1 < r) (rs : r ≤ lengt
   unfolding with_field
   formed_block v y l = formed_once s r F r1 rs field.blocked v refl (block_fact (node_of s r) v fact_at y l)
 
-pub formed_clear : (s : List Node) (r block : ℕ) → Formed s → 1 < r → r ≤ length s → (node_of s r).seen ≡ 1 → block ≤ 1
+flag_most : (b : Bool) → cond b 1 0 ≤ 1
+flag_most true = omega arith
+flag_most false = omega arith
+
+pub formed_clear : (s : List Node) (r : ℕ) (block : Bool) → Formed s → 1 < r → r ≤ length s → (node_of s r).seen ≡ 1
     → Formed (clear_at s r block)
-formed_clear s r block F r1 rs y l =
-    let v = max (node_of s r).blocked block in
+formed_clear s r block F r1 rs y =
+    let l = flag_most block in
+    let v = max (node_of s r).blocked (cond block 1 0) in
     let b = blocked_most (node_of s r) (F.fact r (omega arith) rs) in
     let G : Formed (update s r field.blocked v) = formed_block s r F r1 rs v y (omega arith) in
     let e = length_update s r field.blocked v in
@@ -161,9 +166,9 @@ module _ (s : List Node) (p k : ℕ) (F : Formed s) (p1 : 1 ≤ p) where
   pub formed_drop_bool : Formed (drop_bool s p k)
   formed_drop_bool = at_got drop_bool_at (λ l m y. formed_drop_bool_at s (get_mut s p k) F l m)
 
-  pub formed_clear_range_hint : (block : ℕ) → block ≤ 1 → Formed (clear_range_hint s p k block)
+  pub formed_clear_range_hint : (block : Bool) → Formed (clear_range_hint s p k block)
   unfolding clear_range_hint
-  formed_clear_range_hint block b = at_got (λ s r. clear_at s r block) (λ l m y. formed_clear s (get_mut s p k) block F l m y b)
+  formed_clear_range_hint block = at_got (λ s r. clear_at s r block) (λ l m y. formed_clear s (get_mut s p k) block F l m y)
 
   module _ (ps : p ≤ length s) where
     pub formed_insert_not_bool : Formed (insert_not_bool s p k)

@@ -18,35 +18,22 @@ use Rattle.facts.specs.Linked.{First}
 use Rattle.facts.specs.State.{Node, nodes, node_of}
 use Rattle.facts.specs.Fact.{is_bare}
 use Rattle.facts.specs.Checks.{is_record}
+use Rattle.facts.proofs.Chains.{top, key_le}
 use Rattle.facts.proofs.Encode.{length_nodes, nodes_get}
 use Rattle.facts.proofs.Whole.{fact_parts, bare_zeros}
 use Rattle.paths.specs.Shape.{Shaped}
 use Rattle.paths.specs.Update.{with_field}
 use Rattle.paths.specs.Represents.{Represents}
 use Rattle.paths.proofs.Reach.{shaped_ordered}
-use Rattle.paths.proofs.Walk.{left}
-use Rattle.paths.proofs.Tail.{next_less}
+use Rattle.paths.proofs.Walk.{left_to}
+use Rattle.paths.proofs.Tail.{next_less_to}
 use Rattle.marks.specs.Names.{is_range, drop_name}
 use Rattle.marks.specs.Hints.{without_range, clear_range_hints}
 use Rattle.marks.specs.Dropping.{drop_range}
 use Rattle.marks.specs.Below.{ClearsBelow}
-use Rattle.marks.proofs.NameLaws.{confidence_is, case_yes, case_no, stays, same_state}
+use Rattle.marks.proofs.NameLaws.{case_no}
 use Rattle.marks.proofs.BelowLaws.{Either, either_key, either_parent, Child, Partly, partly_start, partly_next}
 use Rattle.marks.proofs.BelowLaws.{partly_done, all_cleared}
-
--- one record
-module _ (t : List ℕ) (u N r w : ℕ) (r1 : 1 ≤ r) (ru : r ≤ u) (ew : w ≡ confidence_of t r) where
-  pub range_dropped : (t' : List ℕ) → w ≡ by_range → Represents t' u N (drop_name (nodes t u) r) → Represents t' u N (drop_range (nodes t u) r)
-  range_dropped t' z H =
-      same_state t' u N (drop_name (nodes t u) r) (drop_range (nodes t u) r) H
-      (case_yes (is_range (node_of (nodes t u) r)) (drop_name (nodes t u) r) (nodes t u)
-      (eq-eqb (node_of (nodes t u) r).confidence by_range (sym (confidence_is t u r w r1 ru ew) ∙ z)))
-
-  pub range_none : Shaped t u N → (w ≡ by_range → ⊥) → Represents t u N (drop_range (nodes t u) r)
-  range_none S n =
-      stays t u N (drop_range (nodes t u) r) S
-      (case_no (is_range (node_of (nodes t u) r)) (drop_name (nodes t u) r) (nodes t u)
-      (ne_eqb (node_of (nodes t u) r).confidence by_range (λ z. n (confidence_is t u r w r1 ru ew ∙ z))))
 
 -- the walk has come to c: the branches of the children with keys below low are cleared, and t₁ is the table that it
 -- began with
@@ -122,10 +109,11 @@ module _ (t₁ : List ℕ) (used N p : ℕ) (t : List ℕ) (c : ℕ) (C : Cleari
     kid' : Kid t' used p c
     kid' = record { above = kid.above; used = kid.used; parent = parent_kept t used c c1 kid.used t' same ∙ kid.parent }
 
-    pub clearing_less : (c' : ℕ) → p ≤ used → key_of t' c < 2 ^ 32 → c' ≡ next_of t' c → left c' (key_of t' c') < left c (key_of t c)
-    clearing_less c' pu lt e =
+    pub clearing_less : (c' : ℕ) → p ≤ used → c' ≡ next_of t' c → left_to (top t₁) c' (key_of t' c') < left_to (top t₁) c (key_of t c)
+    clearing_less c' pu e =
         let q = key_kept t used c c1 kid.used t' same in
-        rw q at (next_less t' used p c c' S.linked p1 pu kid' lt e)
+        let h : key_of t' c ≤ top t₁ = rw (q, key_kept t₁ used c c1 kid.used t (kept c c1 kid.used)) (key_le t₁ c) in
+        rw q at (next_less_to t' used p (top t₁) c c' S.linked p1 pu kid' h e)
 
     pub clearing_next : (c' : ℕ) → c' ≡ next_of t' c → Clearing t₁ used N p t' c'
     clearing_next c' e =
@@ -158,6 +146,10 @@ module _ (t₁ : List ℕ) (used N p : ℕ) (t : List ℕ) (c : ℕ) (C : Cleari
       let J = child_kid k K in let a = key_is k K.from J.used in let b = C.first.none z k J in omega arith in
       partly_done (nodes t₀ used) p C.low (nodes t used) (shaped_ordered t₀ used N S₀) p1 (omega arith)
       (sym (ap length e) ∙ l₁ ∙ sym l) (rw e at O) (rw e at C.partly) (rw e at all)
+
+-- with as many records used
+pub below_so : (s : List Node) (p : ℕ) (t : List ℕ) (u v : ℕ) → v ≡ u → ClearsBelow s p (nodes t u) → ClearsBelow s p (nodes t v)
+below_so s p t u v e C = rw e C
 
 pub root_cleared : (t t' : List ℕ) (used N : ℕ) → Shaped t used N → Shaped t' used N → ClearsBelow (nodes t used) 1 (nodes t' used)
     → Represents t' used N (clear_range_hints (nodes t used))

@@ -8,14 +8,14 @@ use Rattle.paths.specs.Find.{get_mut}
 use Rattle.marks.specs.Names.{is_range, drop_name}
 
 -- `clear_range_hint` at node r: blocked if asked, and a range name dropped
-abbrev pub clear_at : List Node → ℕ → ℕ → List Node
+abbrev pub clear_at : List Node → ℕ → Bool → List Node
 clear_at s r block =
     cond (is_range (node_of s r))
-    (drop_name (update s r field.blocked (max (node_of s r).blocked block)) r)
-    (update s r field.blocked (max (node_of s r).blocked block))
+    (drop_name (update s r field.blocked (max (node_of s r).blocked (cond block 1 0))) r)
+    (update s r field.blocked (max (node_of s r).blocked (cond block 1 0)))
 
--- `clear_range_hint`: only where `get_mut` finds the path; block is 0 or 1
-unfoldable pub clear_range_hint : List Node → ℕ → ℕ → ℕ → List Node
+-- `clear_range_hint`: only where `get_mut` finds the path
+unfoldable pub clear_range_hint : List Node → ℕ → ℕ → Bool → List Node
 clear_range_hint s p k block = cond (eqb (get_mut s p k) 0) s (clear_at s (get_mut s p k) block)
 
 -- `has_range_hint`

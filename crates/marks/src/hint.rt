@@ -1,55 +1,41 @@
 // Range hints of one path: `clear_range_hint`, `has_range_hint`.
 ghost use Rattle.std.specs.Prelude.{◌≡◌, ◌≤◌};
-ghost use Rattle.facts.specs.State.{nodes};
-ghost use Rattle.paths.specs.Shape.{Shaped};
-ghost use Rattle.paths.specs.Represents.{Represents};
+ghost use Rattle.paths.specs.Lent.{facts_of, Becomes};
 ghost use Rattle.marks.specs.Hints.{clear_at, clear_range_hint, has_range_hint};
 
 use crate::name::drop_name;
-use facts::field;
 use limits::confidences::BY_RANGE;
-use limits::fields::{BLOCKED, CONFIDENCE};
-use paths::{get_mut, store};
+use limits::fields::BLOCKED;
+use paths::Facts;
 
-// Clears the hint of record r, and blocks it for good if block is 1.
-fn clear_at(table: &mut [u32], n: u32, used: u32, r: u32, block: u32)
-    requires shaped { Shaped table.old used n }
-    requires le_r { (1 ≤ r) × (r ≤ used) × (block ≤ 1) }
-    ensures { Represents table.new used n (clear_at (nodes table.old used) r block) }
+// Clears the hint of record r, and blocks it for good if asked.
+fn clear_at(facts: &mut Facts, r: u32, block: bool)
+    requires { (1 ≤ r) × (r ≤ facts.old.used) }
+    ensures { Becomes facts.old facts.new (clear_at (facts_of facts.old) r block) }
 {
-    let range = field(table, r, CONFIDENCE) == BY_RANGE;
-    let blocked = field(table, r, BLOCKED);
-    if blocked < block {
-        store(table, n, used, r, BLOCKED, block);
-    } else {
-        store(table, n, used, r, BLOCKED, blocked);
-    }
-    if range {
-        drop_name(table, n, used, r);
+    let is_range = facts.confidence(r) == BY_RANGE;
+    let blocked = facts.blocked(r);
+    facts.store(r, BLOCKED, blocked.max(u32::from(block)));
+    if is_range {
+        drop_name(facts, r);
     }
 }
 
-pub fn clear_range_hint(table: &mut [u32], n: u32, used: u32, p: u32, k: u32, block: u32)
-    requires shaped { Shaped table.old used n }
-    requires le_p { (1 ≤ p) × (p ≤ used) × (block ≤ 1) }
-    ensures { Represents table.new used n
-        (clear_range_hint (nodes table.old used) p k block) }
+pub fn clear_range_hint(facts: &mut Facts, p: u32, k: u32, block: bool)
+    requires { (1 ≤ p) × (p ≤ facts.old.used) }
+    ensures { Becomes facts.old facts.new (clear_range_hint (facts_of facts.old) p k block) }
 {
-    let c = get_mut(table, n, used, p, k);
-    if c == 0 {
-        return;
+    if let Some(c) = facts.get_mut(p, k) {
+        clear_at(facts, c, block);
     }
-    clear_at(table, n, used, c, block);
 }
 
-pub fn has_range_hint(table: &[u32], n: u32, used: u32, p: u32, k: u32) -> bool
-    requires shaped { Shaped table.now used n }
-    requires le_p { (1 ≤ p) × (p ≤ used) }
-    ensures { result ≡ has_range_hint (nodes table.now used) p k }
+pub fn has_range_hint(facts: &Facts, p: u32, k: u32) -> bool
+    requires { (1 ≤ p) × (p ≤ facts.now.used) }
+    ensures { result ≡ has_range_hint (facts_of facts.now) p k }
 {
-    let c = get_mut(table, n, used, p, k);
-    if c == 0 {
-        return false;
+    match facts.get_mut(p, k) {
+        Some(c) => facts.confidence(c) == BY_RANGE,
+        None => false,
     }
-    field(table, c, CONFIDENCE) == BY_RANGE
 }

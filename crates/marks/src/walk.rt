@@ -1,48 +1,43 @@
 // Range hints of all facts: `clear_range_hints`, a recursive walk over child and next.
-ghost use Rattle.std.specs.Prelude.{◌≤◌};
-ghost use Rattle.facts.specs.State.{nodes};
-ghost use Rattle.paths.specs.Shape.{Shaped};
-ghost use Rattle.paths.specs.Represents.{Represents};
+ghost use Rattle.std.specs.Prelude.{◌≡◌, ◌≤◌};
+ghost use Rattle.paths.specs.Lent.{facts_of, Becomes, IsSameTable};
 ghost use Rattle.marks.specs.Hints.{clear_range_hints};
 ghost use Rattle.marks.specs.Dropping.{drop_range};
 ghost use Rattle.marks.specs.Below.{ClearsBelow};
 
 use crate::name::drop_name;
-use facts::field;
 use limits::confidences::BY_RANGE;
-use limits::fields::{CHILD, CONFIDENCE, NEXT};
+use paths::Facts;
 
 // Drops the name of record r if it is a range name.
-fn drop_range(table: &mut [u32], n: u32, used: u32, r: u32)
-    requires shaped { Shaped table.old used n }
-    requires le_r { (1 ≤ r) × (r ≤ used) }
-    ensures { Represents table.new used n (drop_range (nodes table.old used) r) }
+fn drop_range(facts: &mut Facts, r: u32)
+    requires { (1 ≤ r) × (r ≤ facts.old.used) }
+    ensures { Becomes facts.old facts.new (drop_range (facts_of facts.old) r) }
 {
-    if field(table, r, CONFIDENCE) == BY_RANGE {
-        drop_name(table, n, used, r);
+    if facts.confidence(r) == BY_RANGE {
+        drop_name(facts, r);
     }
 }
 
 // Clears record p and all below it. A child's number is higher than its parent's, so that fewer numbers are left above
 // it.
-fn clear_below(table: &mut [u32], n: u32, used: u32, p: u32)
-    requires shaped { Shaped table.old used n }
-    requires le_p { (1 ≤ p) × (p ≤ used) }
-    ensures shaped_2 { Shaped table.new used n }
-    ensures clears_below { ClearsBelow (nodes table.old used) p (nodes table.new used) }
+fn clear_below(facts: &mut Facts, p: u32)
+    requires { (1 ≤ p) × (p ≤ facts.old.used) }
+    ensures clears_below { ClearsBelow (facts_of facts.old) p (facts_of facts.new) }
+    ensures used_value { facts.new.used ≡ facts.old.used }
+    ensures same { IsSameTable facts.old facts.new }
 {
-    drop_range(table, n, used, p);
-    let mut c = field(table, p, CHILD);
+    drop_range(facts, p);
+    let mut c = facts.child(p);
     while c != 0 {
-        clear_below(table, n, used, c);
-        c = field(table, c, NEXT);
+        clear_below(facts, c);
+        c = facts.next(c);
     }
 }
 
 // All facts are at the root or below it.
-pub fn clear_range_hints(table: &mut [u32], n: u32, used: u32)
-    requires { Shaped table.old used n }
-    ensures { Represents table.new used n (clear_range_hints (nodes table.old used)) }
+pub fn clear_range_hints(facts: &mut Facts)
+    ensures { Becomes facts.old facts.new (clear_range_hints (facts_of facts.old)) }
 {
-    clear_below(table, n, used, 1);
+    clear_below(facts, 1);
 }

@@ -17,3 +17,4 @@ pub mod PathLaws
 pub mod Keys
 pub mod Agreeing
 pub mod Changing
+pub mod Lending

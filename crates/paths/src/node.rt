@@ -101,10 +101,10 @@ impl Facts<'_> {
         self.field(r, NOT_BOOL) == 1
     }
 
-    pub fn is_blocked(&self, r: u32) -> bool
+    pub fn blocked(&self, r: u32) -> u32
         requires { (1 ≤ r) × (r ≤ self.now.used) }
-        ensures { result ≡ ((node_of (facts_of self.now) r).blocked == 1) }
+        ensures { result ≡ (node_of (facts_of self.now) r).blocked }
     {
-        self.field(r, BLOCKED) == 1
+        self.field(r, BLOCKED)
     }
 }

@@ -1,0 +1,7 @@
+use Rattle.std.proofs.Common.{◌∙◌, ap}
+use Rattle.facts.specs.State.{Node}
+use Rattle.paths.proofs.Frame.{read}
+use Rattle.paths.proofs.lent.Facts.blocked.Goals as goal
+
+pub returns : goal.returns
+returns c = c.field.ensures ∙ ap (λ (n : Node). n.blocked) (read _ _ _ c.requires.0 c.requires.1)
