@@ -11,7 +11,6 @@ use Rattle.facts.proofs.Encode.{length_nodes, nodes_get}
 use Rattle.paths.specs.Shape.{Shaped}
 use Rattle.paths.specs.Find.{find_in}
 use Rattle.paths.specs.Make.{get_or_create}
-use Rattle.paths.specs.Represents.{Makes}
 use Rattle.paths.specs.Place.{Before}
 use Rattle.paths.proofs.Reach.{Named, found_named, create_named}
 
@@ -49,12 +48,13 @@ found_before t u N p k k' r S p1 e n h =
     rw e (named_before t u N p k k' (find_in (nodes t u) p k) S p1 (rw (length_nodes t u) at M) h)
 
 -- and behind one that was made
-pub made_before : (u : ℕ) (s : List Node) (p k k' : ℕ) (t : List ℕ) (used N r : ℕ) → 1 ≤ p → k < k' → Makes u (get_or_create s p k) t used N r → Before t used p k' r
-made_before u s p k k' t used N r p1 h M =
+pub made_before : (s : List Node) (p k k' : ℕ) (t : List ℕ) (used N r : ℕ) → 1 ≤ p → k < k' → Shaped t used N
+    → nodes t used ≡ (get_or_create s p k).state → r ≡ (get_or_create s p k).number → 1 ≤ r → r ≤ used → Before t used p k' r
+made_before s p k k' t used N r p1 h S state number r1 ru =
     let C = create_named s p k in
-    named_before t used N p k k' r M.shaped p1 (record {
-      low = M.range.0;
-      high = M.range.1;
-      parent = (λ i. (node_of (M.state i) (M.number i)).parent) ∙ C.parent;
-      key = (λ i. (node_of (M.state i) (M.number i)).key) ∙ C.key;
+    named_before t used N p k k' r S p1 (record {
+      low = r1;
+      high = ru;
+      parent = (λ i. (node_of (state i) (number i)).parent) ∙ C.parent;
+      key = (λ i. (node_of (state i) (number i)).key) ∙ C.key;
     }) h

@@ -52,27 +52,15 @@ module _ (t : List ℕ) (u : ℕ) where
       ∙ ap (λ (ms : List ℕ). told r (any_of (λ m. dynamic_below (length (nodes t u)) (nodes t u) m) ms)) (kids_nodes t u r)
 
   module _ (r : ℕ) (r1 : 1 ≤ r) (ru : r ≤ u) where
-    seen_is : (node_of (nodes t u) r).seen ≡ seen_of t r
-    seen_is = ap (λ (n : Node). n.seen) (nodes_get t u r r1 ru)
+    pub dynamic_unseen : eqb (node_of (nodes t u) r).seen 1 ≡ false → false ≡ has_dynamic (nodes t u) r
+    dynamic_unseen n = sym (dynamic_is r r1 ru ∙ rw n refl)
 
-    kind_is : (node_of (nodes t u) r).kind ≡ kind_of t r
-    kind_is = ap (λ (n : Node). n.kind) (nodes_get t u r r1 ru)
-
-    pub dynamic_unseen : (v : ℕ) → v ≡ seen_of t r → (v ≡ 1 → ⊥) → false ≡ has_dynamic (nodes t u) r
-    dynamic_unseen v e n = sym (dynamic_is r r1 ru ∙ rw (ne_eqb (node_of (nodes t u) r).seen 1 (λ z. n (e ∙ sym seen_is ∙ z))) refl)
-
-    pub dynamic_here : (v k : ℕ) → v ≡ seen_of t r → v ≡ 1 → k ≡ kind_of t r → (k ≡ 0 → ⊥) → true ≡ has_dynamic (nodes t u) r
-    dynamic_here v k e z q n = sym (dynamic_is r r1 ru ∙ rw (
-      eq-eqb (node_of (nodes t u) r).seen 1 (seen_is ∙ sym e ∙ z),
-      ne_eqb (node_of (nodes t u) r).kind 0 (λ y. n (q ∙ sym kind_is ∙ y)),
-    ) refl)
+    pub dynamic_here : eqb (node_of (nodes t u) r).seen 1 ≡ true → ((node_of (nodes t u) r).kind ≡ 0 → ⊥) → true ≡ has_dynamic (nodes t u) r
+    dynamic_here z n = sym (dynamic_is r r1 ru ∙ rw (z, ne_eqb (node_of (nodes t u) r).kind 0 n) refl)
 
     -- else the children say it
-    dynamic_kids : (v k : ℕ) → v ≡ seen_of t r → v ≡ 1 → k ≡ kind_of t r → k ≡ 0 → has_dynamic (nodes t u) r ≡ any_of (has_dynamic (nodes t u)) (kids_of t u r)
-    dynamic_kids v k e z q y = dynamic_is r r1 ru ∙ rw (
-      eq-eqb (node_of (nodes t u) r).seen 1 (seen_is ∙ sym e ∙ z),
-      eq-eqb (node_of (nodes t u) r).kind 0 (kind_is ∙ sym q ∙ y),
-    ) refl
+    dynamic_kids : eqb (node_of (nodes t u) r).seen 1 ≡ true → (node_of (nodes t u) r).kind ≡ 0 → has_dynamic (nodes t u) r ≡ any_of (has_dynamic (nodes t u)) (kids_of t u r)
+    dynamic_kids z y = dynamic_is r r1 ru ∙ rw (z, eq-eqb (node_of (nodes t u) r).kind 0 y) refl
 
     pub seeking_start : (N c : ℕ) → Shaped t u N → c ≡ child_of t r → Seeking t u r c
     seeking_start N c S e = record { ns = kids_of t u r; tail = tail_start t u r S.linked r1 ru c e; same = refl }
@@ -84,11 +72,11 @@ module _ (t : List ℕ) (u : ℕ) where
       first_or : (n : c ≡ 0 → ⊥) → has_dynamic (nodes t u) c || any_of (has_dynamic (nodes t u)) (split n).rest ≡ any_of (has_dynamic (nodes t u)) (kids_of t u r)
       first_or n = sym (ap (any_of (has_dynamic (nodes t u))) (split n).is) ∙ I.same
 
-      pub seeking_found : (v k : ℕ) (b : Bool) → v ≡ seen_of t r → v ≡ 1 → k ≡ kind_of t r → k ≡ 0 → (c ≡ 0 → ⊥) → b ≡ has_dynamic (nodes t u) c → b ≡ true
+      pub seeking_found : (b : Bool) → eqb (node_of (nodes t u) r).seen 1 ≡ true → (node_of (nodes t u) r).kind ≡ 0 → (c ≡ 0 → ⊥) → b ≡ has_dynamic (nodes t u) c → b ≡ true
           → true ≡ has_dynamic (nodes t u) r
-      seeking_found v k b e z q y n h w =
+      seeking_found b z y n h w =
           let x : true ≡ has_dynamic (nodes t u) c = sym w ∙ h in
-          ap (λ (a : Bool). a || any_of (has_dynamic (nodes t u)) (split n).rest) x ∙ first_or n ∙ sym (dynamic_kids v k e z q y)
+          ap (λ (a : Bool). a || any_of (has_dynamic (nodes t u)) (split n).rest) x ∙ first_or n ∙ sym (dynamic_kids z y)
 
       pub seeking_next : (b : Bool) (c' : ℕ) → (c ≡ 0 → ⊥) → b ≡ has_dynamic (nodes t u) c → b ≡ false → c' ≡ next_of t c → Seeking t u r c'
       seeking_next b c' n h w e =
@@ -99,6 +87,6 @@ module _ (t : List ℕ) (u : ℕ) where
             same = ap (λ (a : Bool). a || any_of (has_dynamic (nodes t u)) (split n).rest) x ∙ first_or n;
           }
 
-      pub seeking_done : (v k : ℕ) → v ≡ seen_of t r → v ≡ 1 → k ≡ kind_of t r → k ≡ 0 → c ≡ 0 → false ≡ has_dynamic (nodes t u) r
-      seeking_done v k e z q y w =
-          sym (ap (any_of (has_dynamic (nodes t u))) (tail_none t u r c I.ns I.tail w)) ∙ I.same ∙ sym (dynamic_kids v k e z q y)
+      pub seeking_done : eqb (node_of (nodes t u) r).seen 1 ≡ true → (node_of (nodes t u) r).kind ≡ 0 → c ≡ 0 → false ≡ has_dynamic (nodes t u) r
+      seeking_done z y w =
+          sym (ap (any_of (has_dynamic (nodes t u))) (tail_none t u r c I.ns I.tail w)) ∙ I.same ∙ sym (dynamic_kids z y)

@@ -14,11 +14,9 @@ use borrow.Author.Tests.{eq-eqb}
 use Rattle.limits.specs.Limits.{word_bytes}
 use Rattle.facts.specs.State.{Node, nodes}
 use Rattle.facts.proofs.Encode.{length_nodes}
-use Rattle.paths.specs.Shape.{Shaped}
 use Rattle.paths.specs.Find.{find_in}
 use Rattle.paths.specs.Make.{get_or_create}
 use Rattle.paths.specs.Adds.{missing}
-use Rattle.paths.specs.Represents.{Represents, Makes}
 use Rattle.paths.proofs.Reach.{length_create}
 use Rattle.paths.proofs.Lookups.{find_create}
 use Rattle.kinds.specs.Fill.{fill}
@@ -81,45 +79,42 @@ lacking_done s words absent i I h =
     let e : i ≡ words = (let l = I.low in omega arith) in (I.same ∙ ap (fill_missing s) e, let f = I.few in omega arith)
 
 -- before word i of `fill`: the state is s with the words before it
-pub record Filling (s : List Node) (words : ℕ) (t : List ℕ) (used N i : ℕ) : Type 0 where
-  pub shaped : Shaped t used N
+pub record Filling (s : List Node) (words : ℕ) (t : List ℕ) (used i : ℕ) : Type 0 where
   pub low : i ≤ words
   pub state : nodes t used ≡ fill s i
 
-pub filling_start : (t : List ℕ) (used N words : ℕ) → Shaped t used N → Filling (nodes t used) words t used N 0
+pub filling_start : (t : List ℕ) (used words : ℕ) → Filling (nodes t used) words t used 0
 unfolding fill
-filling_start t used N words S = record { shaped = S; low = omega arith; state = refl }
+filling_start t used words = record { low = omega arith; state = refl }
 
-filling_used : (s : List Node) (words : ℕ) (t : List ℕ) (used N i : ℕ) → Filling s words t used N i → used ≡ length s + fill_missing s i
-filling_used s words t used N i I = sym (length_nodes t used) ∙ ap length I.state ∙ length_fill s i
+filling_used : (s : List Node) (words : ℕ) (t : List ℕ) (used i : ℕ) → Filling s words t used i → used ≡ length s + fill_missing s i
+filling_used s words t used i I = sym (length_nodes t used) ∙ ap length I.state ∙ length_fill s i
 
--- there is room for the word, if there was for all of them
-pub filling_room : (t₀ : List ℕ) (used₀ words : ℕ) (t : List ℕ) (used N i k : ℕ) → Filling (nodes t₀ used₀) words t used N i → i < words
-    → used₀ + fill_missing (nodes t₀ used₀) words ≤ N → k ≡ word_bytes * i → find_in (nodes t used) 1 k ≡ 0 → used < N
-filling_room t₀ used₀ words t used N i k I h room e z =
-    let a = filling_used (nodes t₀ used₀) words t used N i I in
-    let l = length_nodes t₀ used₀ in
-    let f : find_in (nodes t₀ used₀) 1 (word_bytes * i) ≡ 0 =
-    sym (find_fill (nodes t₀ used₀) i (word_bytes * i) (omega arith)) ∙ (λ j. find_in (sym I.state j) 1 (sym e j)) ∙ z in
-    let m = missing_one (nodes t₀ used₀) 1 (word_bytes * i) f in
-    let n = missing_next (nodes t₀ used₀) i in
-    let r = missing_rises (nodes t₀ used₀) (i + 1) words (omega arith) in
-    omega arith
+module _ (t₀ : List ℕ) (used₀ words : ℕ) (t : List ℕ) (used i : ℕ) (I : Filling (nodes t₀ used₀) words t used i) where
+  -- there is room for the word, if there was for all of them
+  pub filling_room : (N : ℕ) → i < words → used₀ + fill_missing (nodes t₀ used₀) words ≤ N → find_in (nodes t used) 1 (word_bytes * i) ≡ 0 → used < N
+  filling_room N h room z =
+      let a = filling_used (nodes t₀ used₀) words t used i I in
+      let l = length_nodes t₀ used₀ in
+      let f : find_in (nodes t₀ used₀) 1 (word_bytes * i) ≡ 0 =
+      sym (find_fill (nodes t₀ used₀) i (word_bytes * i) (omega arith)) ∙ ap (λ (s : List Node). find_in s 1 (word_bytes * i)) (sym I.state) ∙ z in
+      let m = missing_one (nodes t₀ used₀) 1 (word_bytes * i) f in
+      let n = missing_next (nodes t₀ used₀) i in
+      let r = missing_rises (nodes t₀ used₀) (i + 1) words (omega arith) in
+      omega arith
 
-pub filling_next : (s : List Node) (words : ℕ) (t : List ℕ) (used N i k : ℕ) (t' : List ℕ) (used' r : ℕ) → Filling s words t used N i → i < words
-    → k ≡ word_bytes * i → Makes used (get_or_create (nodes t used) 1 k) t' used' N r → Filling s words t' used' N (i + 1)
-unfolding fill
-filling_next s words t used N i k t' used' r I h e M = record {
-  shaped = M.shaped;
-  low = omega arith;
-  state = M.state ∙ (λ j. (get_or_create (I.state j) 1 (e j)).state) ∙ ap (fill s) (sym (add-one i));
-}
+  pub filling_next : (t' : List ℕ) (used' : ℕ) → i < words → nodes t' used' ≡ (get_or_create (nodes t used) 1 (word_bytes * i)).state
+      → Filling (nodes t₀ used₀) words t' used' (i + 1)
+  unfolding fill
+  filling_next t' used' h e = record {
+    low = omega arith;
+    state = e ∙ ap (λ (s : List Node). (get_or_create s 1 (word_bytes * i)).state) I.state ∙ ap (fill (nodes t₀ used₀)) (sym (add-one i));
+  }
 
-pub filling_done : (t₀ : List ℕ) (used₀ words : ℕ) (t : List ℕ) (used N i : ℕ) → Filling (nodes t₀ used₀) words t used N i → words ≤ i
-    → Represents t used N (fill (nodes t₀ used₀) words) × (used ≡ used₀ + fill_missing (nodes t₀ used₀) words)
-filling_done t₀ used₀ words t used N i I h =
-    let e : i ≡ words = (let l = I.low in omega arith) in
-    let a = filling_used (nodes t₀ used₀) words t used N i I in
-    let l = length_nodes t₀ used₀ in
-    let q = ap (fill_missing (nodes t₀ used₀)) e in
-    (record { shaped = I.shaped; state = I.state ∙ ap (fill (nodes t₀ used₀)) e }, omega arith)
+  pub filling_done : words ≤ i → (nodes t used ≡ fill (nodes t₀ used₀) words) × (used ≡ used₀ + fill_missing (nodes t₀ used₀) words)
+  filling_done h =
+      let e : i ≡ words = (let l = I.low in omega arith) in
+      let a = filling_used (nodes t₀ used₀) words t used i I in
+      let l = length_nodes t₀ used₀ in
+      let q = ap (fill_missing (nodes t₀ used₀)) e in
+      (I.state ∙ ap (fill (nodes t₀ used₀)) e, omega arith)

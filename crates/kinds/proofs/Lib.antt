@@ -1,4 +1,3 @@
-pub mod KindLaws
 pub mod DynamicLaws
 mod UpLaws
 pub mod FillLaws

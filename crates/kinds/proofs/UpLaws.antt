@@ -39,26 +39,18 @@ up_end zero s c z = refl
 up_end (suc m) s c z = rw (eq-eqb c 0 z) refl
 
 module _ (t : List ℕ) (used N r arrays c : ℕ) (W : Upward t used N r arrays c) (n : c ≡ 0 → ⊥) where
-  pub up_has : (f : ℕ) → f < record_width → Has t c f
-  up_has f h = let w = W.shaped.linked.whole in let l = W.low in record { from = omega arith; within = omega arith; field = h }
-
-  pub up_fits : used < 2 ^ 32 → arrays + 1 < 2 ^ 32
-  up_fits h = let l = W.low in omega arith
-
   -- a parent has a lower number
-  pub up_less : (c' : ℕ) → c' ≡ parent_of t c → c' < c
-  up_less c' e = let l = W.low in ⊎_elim
+  pub up_less : (c' : ℕ) → c' ≡ (node_of (nodes t used) c).parent → c' < c
+  up_less c' same = let l = W.low in
+      let e : c' ≡ parent_of t c = same ∙ ap (λ (x : Node). x.parent) (nodes_get t used c (omega arith) (omega arith)) in ⊎_elim
       (λ (q : 1 ≡ c). let z = ap (λ (x : ℕ). parent_of t x) q in let p = W.shaped.root_parent in omega arith)
       (λ (h : 1 < c). let p = (W.shaped.linked.up c h (omega arith)).1 in omega arith)
       (eq-or-lt_of_le (let z : 1 ≤ c = omega arith in z))
 
   -- one turn, that adds one for an array
-  step : (one c' : ℕ) → one ≤ 1 → cond (eqb (node_of (nodes t used) c).kind kind_array) 1 0 ≡ one → c' ≡ parent_of t c → Upward t used N r (arrays + one) c'
+  step : (one c' : ℕ) → one ≤ 1 → cond (eqb (node_of (nodes t used) c).kind kind_array) 1 0 ≡ one → c' ≡ (node_of (nodes t used) c).parent → Upward t used N r (arrays + one) c'
   step one c' o q e = go W.turns W.enough W.same
     where
-      parent_is : (node_of (nodes t used) c).parent ≡ c'
-      parent_is = ap (λ (x : Node). x.parent) (nodes_get t used c (omega arith) (let l = W.low in omega arith)) ∙ sym e
-
       go : (m : ℕ) → c ≤ m → arrays + arrays_up m (nodes t used) c ≡ arrays_in_path (nodes t used) r → Upward t used N r (arrays + one) c'
       go zero h w = absurd (n (omega arith))
       go (suc m) h w = record {
@@ -68,21 +60,17 @@ module _ (t : List ℕ) (used N r arrays c : ℕ) (W : Upward t used N r arrays 
         enough = let x = up_less c' e in omega arith;
         same =
             let a = up_turn m (nodes t used) c n in
-            let b = ap (λ (x : ℕ). arrays_up m (nodes t used) x) parent_is in
+            let b = ap (λ (x : ℕ). arrays_up m (nodes t used) x) (sym e) in
             omega arith;
       }
 
-  kind_is : (k : ℕ) → k ≡ kind_of t c → k ≡ (node_of (nodes t used) c).kind
-  kind_is k e = e ∙ sym (ap (λ (x : Node). x.kind) (nodes_get t used c (omega arith) (let l = W.low in omega arith)))
+  pub up_array : (arrays' c' : ℕ) → (node_of (nodes t used) c).kind ≡ kind_array → arrays' ≡ arrays + 1 → c' ≡ (node_of (nodes t used) c).parent → Upward t used N r arrays' c'
+  up_array arrays' c' a q h = rw q (step 1 c' (omega arith) (rw (eq-eqb (node_of (nodes t used) c).kind kind_array a) refl) h)
 
-  pub up_array : (k arrays' c' : ℕ) → k ≡ kind_of t c → k ≡ kind_array → arrays' ≡ arrays + 1 → c' ≡ parent_of t c → Upward t used N r arrays' c'
-  up_array k arrays' c' e a q h =
-      rw q (step 1 c' (omega arith) (rw (eq-eqb (node_of (nodes t used) c).kind kind_array (sym (kind_is k e) ∙ a)) refl) h)
-
-  pub up_other : (k arrays' c' : ℕ) → k ≡ kind_of t c → (k ≡ kind_array → ⊥) → arrays' ≡ arrays → c' ≡ parent_of t c → Upward t used N r arrays' c'
-  up_other k arrays' c' e a q h =
+  pub up_other : (arrays' c' : ℕ) → ((node_of (nodes t used) c).kind ≡ kind_array → ⊥) → arrays' ≡ arrays → c' ≡ (node_of (nodes t used) c).parent → Upward t used N r arrays' c'
+  up_other arrays' c' a q h =
       let z : arrays' ≡ arrays + 0 = omega arith in
-      rw z (step 0 c' (omega arith) (rw (ne_eqb (node_of (nodes t used) c).kind kind_array (λ y. a (kind_is k e ∙ y))) refl) h)
+      rw z (step 0 c' (omega arith) (rw (ne_eqb (node_of (nodes t used) c).kind kind_array a) refl) h)
 
 pub up_done : (t : List ℕ) (used N r arrays c : ℕ) → Upward t used N r arrays c → c ≡ 0 → arrays ≡ arrays_in_path (nodes t used) r
 up_done t used N r arrays c W z = let a = up_end W.turns (nodes t used) c z in let b = W.same in omega arith

@@ -1,30 +1,27 @@
 // Is there a dynamic or an array at a path or below it: `has_dynamic`, a recursive walk over child and next.
 ghost use Rattle.std.specs.Prelude.{◌≡◌, ◌≤◌};
-ghost use Rattle.facts.specs.State.{nodes};
-ghost use Rattle.paths.specs.Shape.{Shaped};
+ghost use Rattle.paths.specs.Lent.{facts_of};
 ghost use Rattle.kinds.specs.Kinds.{has_dynamic};
 
-use facts::field;
-use limits::fields::{CHILD, KIND, NEXT, SEEN};
+use paths::Facts;
 
 // A child's number is higher than its parent's, so that fewer numbers are left above it.
-pub fn has_dynamic(table: &[u32], n: u32, used: u32, r: u32) -> bool
-    requires shaped { Shaped table.now used n }
-    requires le_r { (1 ≤ r) × (r ≤ used) }
-    ensures { result ≡ has_dynamic (nodes table.now used) r }
+pub fn has_dynamic(facts: &Facts, r: u32) -> bool
+    requires { (1 ≤ r) × (r ≤ facts.now.used) }
+    ensures { result ≡ has_dynamic (facts_of facts.now) r }
 {
-    if field(table, r, SEEN) != 1 {
+    if !facts.is_seen(r) {
         return false;
     }
-    if field(table, r, KIND) != 0 {
+    if facts.kind(r) != 0 {
         return true;
     }
-    let mut c = field(table, r, CHILD);
+    let mut c = facts.child(r);
     while c != 0 {
-        if has_dynamic(table, n, used, c) {
+        if has_dynamic(facts, c) {
             return true;
         }
-        c = field(table, c, NEXT);
+        c = facts.next(c);
     }
     false
 }

@@ -1,0 +1,16 @@
+use Rattle.std.proofs.Common.{refl, List}
+use borrow.Author.Tests.{eq-eqb, ne_eqb}
+use Rattle.facts.specs.State.{Node}
+use Rattle.paths.proofs.Lending.{stays, becomes_then}
+use Rattle.kinds.specs.Kinds.{array_at, set_array}
+use Rattle.kinds.proofs.info.set_array.Goals as goal
+
+pub returns-then-r-eq1 : goal.returns-then-r-eq1
+unfolding set_array
+returns-then-r-eq1 c = rw (eq-eqb c.args.r 1 c.if-r-eq1.true) (stays _ _ refl)
+
+pub returns : goal.returns
+unfolding set_array
+returns c =
+    rw (ne_eqb c.args.r 1 c.if-r-eq1.false)
+    (becomes_then (λ (s : List Node). array_at s c.args.r c.args.count) _ _ _ _ c.make_seen.ensures c.array_at.ensures)
