@@ -53,7 +53,7 @@ module _ (At New : List ℕ → Type 0) (s s' : List Node) (C : Changes At New s
 
   pub named_kept : (o : Operation) → Reaches (length s) o → named_path s' o ≡ named_path s o
   named_kept Nothing R = refl
-  named_kept (ClearRangeHint p k block) R = named_on p k R.0
+  named_kept (ClearRangeHint p k block) R = named_on p k R
   named_kept ClearRangeHints R = refl
   named_kept (MarkNotBool p k) R = named_on p k R
   named_kept (InsertNotBool p k) R = named_on p k R
@@ -68,7 +68,7 @@ module _ (At New : List ℕ → Type 0) (s s' : List Node) (C : Changes At New s
 
     pub below_kept : (o : Operation) → Reaches (length s) o → NamesBelow a s o → NamesBelow a s' o
     below_kept Nothing R B = tt
-    below_kept (ClearRangeHint p k block) R B = begins_on p k R.0 B
+    below_kept (ClearRangeHint p k block) R B = begins_on p k R B
     below_kept ClearRangeHints R B = absurd B
     below_kept (MarkNotBool p k) R B = begins_on p k R B
     below_kept (InsertNotBool p k) R B = begins_on p k R B

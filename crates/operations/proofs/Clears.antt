@@ -46,20 +46,20 @@ module _ (g : Node → ℕ) (B : Spares g field.blocked) (N : Spares g field.nam
       part_update g (update s r field.name code.no_name) r field.confidence 0 q S
       ∙ part_update g s r field.name code.no_name q N
 
-  part_cleared : (s : List Node) (r block q : ℕ) → g (node_of (clear_at s r block) q) ≡ g (node_of s q)
+  part_cleared : (s : List Node) (r : ℕ) (block : Bool) (q : ℕ) → g (node_of (clear_at s r block) q) ≡ g (node_of s q)
   part_cleared s r block q = go (is_range (node_of s r))
     where
       s' : List Node
-      s' = update s r field.blocked (max (node_of s r).blocked block)
+      s' = update s r field.blocked (max (node_of s r).blocked (cond block 1 0))
 
       once : g (node_of s' q) ≡ g (node_of s q)
-      once = part_update g s r field.blocked (max (node_of s r).blocked block) q B
+      once = part_update g s r field.blocked (max (node_of s r).blocked (cond block 1 0)) q B
 
       go : (b : Bool) → g (node_of (cond b (drop_name s' r) s') q) ≡ g (node_of s q)
       go true = part_dropped s' r q ∙ once
       go false = once
 
-  part_hint : (s : List Node) (p k block q : ℕ) → g (node_of (clear_range_hint s p k block) q) ≡ g (node_of s q)
+  part_hint : (s : List Node) (p k : ℕ) (block : Bool) (q : ℕ) → g (node_of (clear_range_hint s p k block) q) ≡ g (node_of s q)
   unfolding clear_range_hint
   part_hint s p k block q = go (eqb (get_mut s p k) 0)
     where

@@ -65,11 +65,11 @@ module _ (path : List ℕ) (s t : List Node) (r : ℕ) (T : Touches path s t r) 
       touch_cond path s r (eqb (node_of t r).kind kind_array && ltb count (node_of t r).count) t
       (give_kind t r kind_array count) T (touch_twice path s r t field.kind kind_array field.count count T)
 
-touch_cleared : (path : List ℕ) (s t : List Node) (r : ℕ) → Touches path s t r → (block : ℕ)
+touch_cleared : (path : List ℕ) (s t : List Node) (r : ℕ) → Touches path s t r → (block : Bool)
     → Touches path s (clear_at t r block) r
 touch_cleared path s t r T block =
-    let u = update t r field.blocked (max (node_of t r).blocked block) in
-    let U = touch_update path s r t field.blocked (max (node_of t r).blocked block) T in
+    let u = update t r field.blocked (max (node_of t r).blocked (cond block 1 0)) in
+    let U = touch_update path s r t field.blocked (max (node_of t r).blocked (cond block 1 0)) T in
     touch_cond path s r (is_range (node_of t r)) (drop_name u r) u (touch_dropped path s u r U) U
 
 -- `set_info` of a record; the root stays as it is
@@ -112,7 +112,7 @@ module _ (s : List Node) (O : Ordered s) (p k : ℕ) (p1 : 1 ≤ p) (ps : p ≤ 
       go true e = frames_none path s O
       go false e = f (touch_got s O p k p1 ps (eqb-false (get_mut s p k) 0 e))
 
-  pub frames_clear_range_hint : (block : ℕ) → Frames path s (clear_range_hint s p k block)
+  pub frames_clear_range_hint : (block : Bool) → Frames path s (clear_range_hint s p k block)
   unfolding clear_range_hint
   frames_clear_range_hint block =
       let r = get_mut s p k in
@@ -175,7 +175,7 @@ module _ (s : List Node) (H : Rooted s) where
   unfolding run
   run_frames Nothing R A = frames_none [] s H.ordered
   run_frames (ClearRangeHint p k block) R A =
-      frames_clear_range_hint s H.ordered p k R.0.from R.0.to block
+      frames_clear_range_hint s H.ordered p k R.from R.to block
   run_frames ClearRangeHints R A = absurd A
   run_frames (MarkNotBool p k) R A = frames_mark_not_bool s H.ordered p k R.from R.to
   run_frames (InsertNotBool p k) R A = frames_insert_not_bool s H.ordered p k R.from R.to

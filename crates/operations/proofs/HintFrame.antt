@@ -39,11 +39,11 @@ same_changes At s s' S f = let l = S.size in record {
 }
 
 -- all but the node that is cleared
-clear_other : (s : List Node) (r block q : ℕ) → 1 ≤ r → 1 ≤ q → (q ≡ r → ⊥) → node_of (clear_at s r block) q ≡ node_of s q
+clear_other : (s : List Node) (r : ℕ) (block : Bool) (q : ℕ) → 1 ≤ r → 1 ≤ q → (q ≡ r → ⊥) → node_of (clear_at s r block) q ≡ node_of s q
 clear_other s r block q r1 q1 n = go (is_range (node_of s r))
   where
     blocked : ℕ
-    blocked = max (node_of s r).blocked block
+    blocked = max (node_of s r).blocked (cond block 1 0)
 
     t : List Node
     t = update s r field.blocked blocked
@@ -58,7 +58,7 @@ clear_other s r block q r1 q1 n = go (is_range (node_of s r))
     go false = once
 
 module _ (s : List Node) (F : Formed s) (p k : ℕ) (U : IsUsed (length s) p) where
-  hint_other : (block q : ℕ) → 1 ≤ q → (path_of s q ≡ path_of s p ++ k ∷ [] → ⊥)
+  hint_other : (block : Bool) (q : ℕ) → 1 ≤ q → (path_of s q ≡ path_of s p ++ k ∷ [] → ⊥)
       → node_of (clear_range_hint s p k block) q ≡ node_of s q
   unfolding clear_range_hint
   hint_other block q q1 n = go (eqb (get_mut s p k) 0) refl
@@ -72,7 +72,7 @@ module _ (s : List Node) (F : Formed s) (p k : ℕ) (U : IsUsed (length s) p) wh
           let T = touch_got s (formed_ordered s F) p k U.from U.to (eqb-false r 0 e) in
           clear_other s r block q T.stands.from q1 (λ x. n (ap (path_of s) x ∙ T.stands.path))
 
-  pub hint_only : (block : ℕ) → Changes (λ q. q ≡ path_of s p ++ k ∷ []) (λ q. ⊥) s (run s (ClearRangeHint p k block))
+  pub hint_only : (block : Bool) → Changes (λ q. q ≡ path_of s p ++ k ∷ []) (λ q. ⊥) s (run s (ClearRangeHint p k block))
   unfolding run
   hint_only block =
       same_changes (λ q. q ≡ path_of s p ++ k ∷ []) s (clear_range_hint s p k block) (same_clear_range_hint s p k block)

@@ -26,7 +26,7 @@ use Rattle.operations.proofs.Lists.{Each, each_more}
 pub run_formed : (s : List Node) (o : Operation) → Formed s → Reaches (length s) o → Stores o → Formed (run s o)
 unfolding run
 run_formed s Nothing F R T = F
-run_formed s (ClearRangeHint p k block) F R T = formed_clear_range_hint s p k F R.0.from block R.1
+run_formed s (ClearRangeHint p k block) F R T = formed_clear_range_hint s p k F R.from block
 run_formed s ClearRangeHints F R T = formed_clear_range_hints s F
 run_formed s (MarkNotBool p k) F R T = formed_mark_not_bool s p k F R.from R.to
 run_formed s (InsertNotBool p k) F R T = formed_insert_not_bool s p k F R.from R.to

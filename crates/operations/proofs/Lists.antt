@@ -33,7 +33,7 @@ used_more used used' p h U = record { from = U.from; to = let t = U.to in omega 
 
 pub reaches_more : (used used' : ℕ) → used ≤ used' → (o : Operation) → Reaches used o → Reaches used' o
 reaches_more used used' h Nothing R = tt
-reaches_more used used' h (ClearRangeHint p k block) R = (used_more used used' p h R.0, R.1)
+reaches_more used used' h (ClearRangeHint p k block) R = used_more used used' p h R
 reaches_more used used' h ClearRangeHints R = tt
 reaches_more used used' h (MarkNotBool p k) R = used_more used used' p h R
 reaches_more used used' h (InsertNotBool p k) R = used_more used used' p h R

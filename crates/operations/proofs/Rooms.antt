@@ -21,7 +21,7 @@ use Rattle.operations.proofs.Changes.{makes_reaches}
 use Rattle.operations.proofs.Sizes.{lacks_none, lacks_some, lacks_most, added_by, three_size}
 
 -- one path, looked up unless it is counted or there is none
-module _ (t : List ℕ) (u n : ℕ) (f : FullPath) (b : Bool) where
+module _ (t : List ℕ) (u : ℕ) (f : FullPath) (b : Bool) where
   pub lack_none : (b || eqb f.path 0) ≡ true → (0 ≡ cond b 0 (lacks (nodes t u) f)) × (0 ≤ 1)
   lack_none e = (go b e, omega arith)
     where
@@ -33,10 +33,6 @@ module _ (t : List ℕ) (u n : ℕ) (f : FullPath) (b : Bool) where
   some : (b : Bool) → (b || eqb f.path 0) ≡ false → f.path ≡ 0 → ⊥
   some true e = absurd (true≢false e)
   some false e = eqb-false f.path 0 e
-
-  pub lack_asks : (b || eqb f.path 0) ≡ false → Shaped t u n × PathReaches u f
-      → Linked t u × ((parent_of t 1 ≡ 0) × ((1 ≤ f.path) × (f.path ≤ u)))
-  lack_asks e P = let U = P.1 (some b e) in (P.0.linked, (P.0.root_parent, (U.from, U.to)))
 
   pub lack_some : (r : ℕ) → (b || eqb f.path 0) ≡ false → (r ≡ missing (nodes t u) f.path f.offset) × (r ≤ 1)
       → (r ≡ cond b 0 (lacks (nodes t u) f)) × (r ≤ 1)
@@ -92,7 +88,3 @@ module _ (t : List ℕ) (u n : ℕ) (a b c : Operation) (S : Shaped t u n) (R : 
             (λ i. e i + e' i + e'' i)
             ∙ (λ i. lacks s f + cond (ex i) 0 (lacks s g) + cond (ey i || ez i) 0 (lacks s h))
             ∙ (λ i. added_by (nodes t u) (ef i) (eg i) (eh i))
-
-pub room_asks : (t : List ℕ) (u n : ℕ) (o : Operation) (f : FullPath) → Shaped t u n → f ≡ makes o → Reaches u o
-    → Shaped t u n × PathReaches u f
-room_asks t u n o f S e R = (S, subst (PathReaches u) (sym e) (makes_reaches u o R))

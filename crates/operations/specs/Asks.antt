@@ -16,10 +16,10 @@ pub record IsUsed (used r : ℕ) : Type 0 where
   pub from : 1 ≤ r
   pub to : r ≤ used
 
--- the records that an operation names are used, and a block is 0 or 1
+-- the records that an operation names are used
 abbrev pub Reaches : ℕ → Operation → Type 0
 Reaches used Nothing = Unit {0}
-Reaches used (ClearRangeHint p k block) = IsUsed used p × (block ≤ 1)
+Reaches used (ClearRangeHint p k block) = IsUsed used p
 Reaches used ClearRangeHints = Unit {0}
 Reaches used (MarkNotBool p k) = IsUsed used p
 Reaches used (InsertNotBool p k) = IsUsed used p

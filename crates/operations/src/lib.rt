@@ -9,11 +9,11 @@ pub use room::has_room;
 pub use running::{make_dynamic, run};
 
 // A path is a record's number and the key at its end, as the Rust's `path` and `offset`.
-#[derive(Clone, Copy)]
+#[derive(Clone, Copy, Debug, PartialEq, Eq)]
 pub enum Operation {
     Nothing,
     // path, offset, and whether new range names are blocked too
-    ClearRangeHint(u32, u32, u32),
+    ClearRangeHint(u32, u32, bool),
     ClearRangeHints,
     // path, offset
     MarkNotBool(u32, u32),
@@ -29,7 +29,7 @@ pub enum Operation {
 
 // The path that an operation makes, if it is not there: the record that it continues, 0 where none is made, and its
 // last key.
-#[derive(Clone, Copy)]
+#[derive(Clone, Copy, Debug, PartialEq, Eq)]
 pub struct FullPath {
     pub path: u32,
     pub offset: u32,

@@ -1,5 +1,5 @@
 -- What calls do to the facts of a lent table, one after another.
-use Rattle.std.proofs.Common.{◌≡◌, ℕ, List, sym, refl, ap, ◌∙◌}
+use Rattle.std.proofs.Common.{◌≡◌, ℕ, List, sym, refl, ap, ◌∙◌, arith}
 use Rattle.facts.specs.State.{Node}
 use Rattle.paths.specs.declared.lent.Facts.{Facts}
 use Rattle.paths.specs.Lent.{facts_of, IsSameTable, Becomes, Grows, Makes}
@@ -18,6 +18,9 @@ stays a s e = record { state = e; used = refl; same = same_stays a }
 -- the same facts by another definition
 pub becomes_so : (a b : Facts) (s s' : List Node) → Becomes a b s → s ≡ s' → Becomes a b s'
 becomes_so a b s s' B e = record { state = B.state ∙ e; used = B.used; same = B.same }
+
+pub grows_so : (a b : Facts) (s : List Node) → Becomes a b s → Grows a b s
+grows_so a b s B = record { state = B.state; used = rw B.used (omega arith); same = B.same }
 
 -- one change after another
 pub becomes_then : (f : List Node → List Node) (a b c : Facts) (s : List Node) → Becomes a b s → Becomes b c (f (facts_of b)) → Becomes a c (f s)
