@@ -119,3 +119,12 @@ count_once numbers N M C D = let c = C.is in let d = D.is in omega arith
 abbrev pub NoCount : Result ℕ Refusal → Type 0
 NoCount (Ok N) = ⊥
 NoCount (Err r) = Unit {0}
+
+-- a table that is refused is so by question 1
+pub refused_count : (n : ℕ) (r : Refusal) → Err r ≡ record_count n → r ≡ NoRecords
+unfolding record_count
+refused_count n r = go (has_records n)
+  where
+    go : (b : Bool) → Err r ≡ cond b (Ok (n / record_width)) (Err NoRecords) → r ≡ NoRecords
+    go true e = absurd (cc)
+    go false e = cc

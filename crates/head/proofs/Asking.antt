@@ -12,8 +12,8 @@ use Rattle.limits.specs.declared.refusal.Refusal.{Refusal}
 use Rattle.limits.proofs.Refusals.{not_taken}
 use Rattle.facts.specs.Count.{Counted}
 use Rattle.facts.specs.Sound.{Sound}
-use Rattle.head.specs.declared.Admitted.{Admitted}
-use Rattle.head.specs.declared.Admitted.TheVariants.{Records, Refused}
+use Rattle.std.specs.Prelude.{Ok, Err}
+use Rattle.std.specs.declared.result.Result.{Result}
 use Rattle.head.specs.Held.{Held, HasRecords, IsSound}
 use Rattle.head.specs.Asked.{Test, first_no, Questions, tests, ask, FirstNo, after_sound}
 use Rattle.head.specs.Admitting.{Admits, AdmittedBy}
@@ -55,9 +55,9 @@ module _ (h : Held) (n : ℕ) (A : Admits h n) where
   admitted_sound = subst (Sound h.table h.head.used) (sym A.is) A.sound.sound
 
 -- what the code's answer to 1 and 2 says, by its case
-module _ (h : Held) (a : Admitted) (is : AdmittedBy h a) where
-  pub records_so : (n : ℕ) → a ≡ Records n → Admits h n
+module _ (h : Held) (a : Result ℕ Refusal) (is : AdmittedBy h a) where
+  pub records_so : (n : ℕ) → a ≡ Ok n → Admits h n
   records_so n e = subst (AdmittedBy h) e is
 
-  pub refused_so : (ts : List Test) (r : Refusal) → a ≡ Refused r → FirstNo (after_sound h ts) (number_of r)
+  pub refused_so : (ts : List Test) (r : Refusal) → a ≡ Err r → FirstNo (after_sound h ts) (number_of r)
   refused_so ts r e = refused_asked h ts r (subst (AdmittedBy h) e is)
