@@ -90,17 +90,11 @@ module _ (t : List ℕ) (u r : ℕ) where
       split : More t u r c I.ns
       split = tail_more t u r c I.ns I.tail n
 
-      got : (node_of (nodes t u) c).seen ≡ seen_of t c × (node_of (nodes t u) c).key ≡ key_of t c × (node_of (nodes t u) c).kind ≡ kind_of t c
-      got =
-          let K = tail_kid t u r c I.ns I.tail n in let a = K.above in
-          let e = nodes_get t u c (omega arith) K.used in
-          (ap (λ (x : Node). x.seen) e, ap (λ (x : Node). x.key) e, ap (λ (x : Node). x.kind) e)
-
       -- there are no more of them than records
-      pub looking_fits : (v : ℕ) → v ≡ seen_of t c → v ≡ 1 → u < 2 ^ 32 → count + 1 < 2 ^ 32
+      pub looking_fits : (node_of (nodes t u) c).seen ≡ 1 → u < 2 ^ 32 → count + 1 < 2 ^ 32
       unfolding kids_in
-      looking_fits v e o h =
-          let a = ap length (seen_yes (nodes t u) c split.rest (got.0 ∙ sym e ∙ o)) in
+      looking_fits o h =
+          let a = ap length (seen_yes (nodes t u) c split.rest o) in
           let b = ap (λ (ms : List ℕ). length (seen_ones (nodes t u) ms)) split.is in
           let d = I.counted in
           let f = seen_length (nodes t u) (kids_in (nodes t u) r) in
@@ -108,25 +102,12 @@ module _ (t : List ℕ) (u r : ℕ) where
           let l = length_nodes t u in
           omega arith
 
-      pub looking_seen : (v count' last' kind' c' : ℕ) → v ≡ seen_of t c → v ≡ 1 → count' ≡ count + 1 → last' ≡ key_of t c → kind' ≡ kind_of t c
-          → c' ≡ next_of t c → Looking t u r count' last' kind' c'
+      pub looking_seen : (count' last' kind' c' : ℕ) → (node_of (nodes t u) c).seen ≡ 1 → count' ≡ count + 1 → last' ≡ (node_of (nodes t u) c).key
+          → kind' ≡ (node_of (nodes t u) c).kind → c' ≡ next_of t c → Looking t u r count' last' kind' c'
       unfolding last_from kind_from
-      looking_seen v count' last' kind' c' e o p q w x =
+      looking_seen count' last' kind' c' o p q w x =
           let y : seen_ones (nodes t u) I.ns ≡ c ∷ seen_ones (nodes t u) split.rest =
-          ap (seen_ones (nodes t u)) split.is ∙ seen_yes (nodes t u) c split.rest (got.0 ∙ sym e ∙ o) in
-          record {
-            ns = split.rest;
-            tail = rw x split.tail;
-            counted = let a = ap length y in let b = I.counted in omega arith;
-            key = ap (λ (k : ℕ). last_from (nodes t u) k (seen_ones (nodes t u) split.rest)) (q ∙ sym got.1) ∙ (rw y at I.key);
-            kinds = ap (λ (k : ℕ). kind_from (nodes t u) k (seen_ones (nodes t u) split.rest)) (w ∙ sym got.2) ∙ (rw y at I.kinds);
-          }
-
-      pub looking_unseen : (v count' last' kind' c' : ℕ) → v ≡ seen_of t c → (v ≡ 1 → ⊥) → count' ≡ count → last' ≡ last → kind' ≡ kind
-          → c' ≡ next_of t c → Looking t u r count' last' kind' c'
-      looking_unseen v count' last' kind' c' e o p q w x =
-          let y : seen_ones (nodes t u) I.ns ≡ seen_ones (nodes t u) split.rest =
-          ap (seen_ones (nodes t u)) split.is ∙ seen_no (nodes t u) c split.rest (λ z. o (e ∙ sym got.0 ∙ z)) in
+          ap (seen_ones (nodes t u)) split.is ∙ seen_yes (nodes t u) c split.rest o in
           record {
             ns = split.rest;
             tail = rw x split.tail;
@@ -135,20 +116,18 @@ module _ (t : List ℕ) (u r : ℕ) where
             kinds = ap (λ (k : ℕ). kind_from (nodes t u) k (seen_ones (nodes t u) split.rest)) w ∙ (rw y at I.kinds);
           }
 
--- the last word of a fact whose seen children end at this key
-module _ (t : List ℕ) (u r last count : ℕ) (r1 : 1 ≤ r) (ru : r ≤ u) (l : last ≡ last_key (nodes t u) r) (k : count ≡ count_of t r) where
-  count_is : (node_of (nodes t u) r).count ≡ count
-  count_is = ap (λ (x : Node). x.count) (nodes_get t u r r1 ru) ∙ sym k
-
-  word_is : last_word (nodes t u) r ≡ max (last / word_bytes) count
-  unfolding last_word
-  word_is = λ i. max (sym l i / word_bytes) (count_is i)
-
-  pub word_count : last / word_bytes < count → count ≡ last_word (nodes t u) r
-  word_count h = let a = word_is in omega arith
-
-  pub word_key : count ≤ last / word_bytes → last / word_bytes ≡ last_word (nodes t u) r
-  word_key h = let a = word_is in omega arith
+      pub looking_unseen : (count' last' kind' c' : ℕ) → ((node_of (nodes t u) c).seen ≡ 1 → ⊥) → count' ≡ count → last' ≡ last → kind' ≡ kind
+          → c' ≡ next_of t c → Looking t u r count' last' kind' c'
+      looking_unseen count' last' kind' c' o p q w x =
+          let y : seen_ones (nodes t u) I.ns ≡ seen_ones (nodes t u) split.rest =
+          ap (seen_ones (nodes t u)) split.is ∙ seen_no (nodes t u) c split.rest o in
+          record {
+            ns = split.rest;
+            tail = rw x split.tail;
+            counted = let a = ap length y in let b = I.counted in omega arith;
+            key = ap (λ (k : ℕ). last_from (nodes t u) k (seen_ones (nodes t u) split.rest)) q ∙ (rw y at I.key);
+            kinds = ap (λ (k : ℕ). kind_from (nodes t u) k (seen_ones (nodes t u) split.rest)) w ∙ (rw y at I.kinds);
+          }
 
 -- none, and one alone, by how many there are
 pub empty_is : (ms : List ℕ) → is_empty ms ≡ eqb (length ms) 0
@@ -163,9 +142,9 @@ lone_is s (m ∷ q ∷ ms) = sym (rw (ne_eqb (suc (suc (length ms))) 1 (λ e. om
 
 -- the first seen child decides
 module _ (t : List ℕ) (u r c : ℕ) (I : Looking t u r 0 0 0 c) where
-  pub childless_no : (n : c ≡ 0 → ⊥) (v : ℕ) → v ≡ seen_of t c → v ≡ 1 → false ≡ is_empty (children_in (nodes t u) r)
-  childless_no n v e o =
-      let J = looking_seen t u r 0 0 0 c I n v 1 (key_of t c) (kind_of t c) (next_of t c) e o (omega arith) refl refl refl in
+  pub childless_no : (n : c ≡ 0 → ⊥) → (node_of (nodes t u) c).seen ≡ 1 → false ≡ is_empty (children_in (nodes t u) r)
+  childless_no n o =
+      let J = looking_seen t u r 0 0 0 c I n 1 _ _ (next_of t c) o (omega arith) refl refl refl in
       let k = J.counted in
       sym (empty_is (children_in (nodes t u) r) ∙ ne_eqb (length (children_in (nodes t u) r)) 0 (λ z. omega arith))
 

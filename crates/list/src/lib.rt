@@ -7,7 +7,7 @@ mod seen;
 pub use seen::{is_childless, last_word, seen_children};
 
 // A fact's seen children: how many there are, and the last one's key and kind, 0 without one.
-#[derive(Clone, Copy)]
+#[derive(Clone, Copy, Debug, PartialEq, Eq)]
 pub struct Children {
     pub count: u32,
     pub last_key: u32,

@@ -1,36 +1,33 @@
 // A fact's seen children, in one walk of its chain.
 ghost use Rattle.std.specs.Prelude.{◌≡◌, ◌≤◌};
-ghost use Rattle.facts.specs.State.{nodes};
-ghost use Rattle.paths.specs.Shape.{Shaped};
+ghost use Rattle.paths.specs.Lent.{facts_of};
 ghost use Rattle.list.specs.Seen.{children_in, is_empty, last_key, last_word};
 ghost use Rattle.list.specs.Looks.{Looked};
 
 use crate::Children;
-use facts::field;
 use limits::WORD_BYTES;
-use limits::fields::{CHILD, COUNT, KEY, KIND, NEXT, SEEN};
+use paths::Facts;
 
 // Unseen records stand in the chain and are passed over. A record often stands in the chain right behind the one before
 // it: where it does, the walk counts on instead of waiting for the number that it loads.
-pub fn seen_children(table: &[u32], n: u32, used: u32, r: u32) -> Children
-    requires shaped { Shaped table.now used n }
-    requires le_r { (1 ≤ r) × (r ≤ used) }
-    ensures { Looked (nodes table.now used) r result }
+pub fn seen_children(facts: &Facts, r: u32) -> Children
+    requires { (1 ≤ r) × (r ≤ facts.now.used) }
+    ensures { Looked (facts_of facts.now) r result }
 {
     let mut count: u32 = 0;
     let mut last_key: u32 = 0;
     let mut last_kind: u32 = 0;
-    let mut next = field(table, r, CHILD);
+    let mut next = facts.child(r);
     while next != 0 {
         let mut c = next;
         loop {
-            if field(table, c, SEEN) == 1 {
+            if facts.is_seen(c) {
                 count += 1;
-                last_key = field(table, c, KEY);
-                last_kind = field(table, c, KIND);
+                last_key = facts.key(c);
+                last_kind = facts.kind(c);
             }
             let follow = c as usize + 1;
-            next = field(table, c, NEXT);
+            next = facts.next(c);
             if next as usize != follow {
                 break;
             }
@@ -45,29 +42,25 @@ pub fn seen_children(table: &[u32], n: u32, used: u32, r: u32) -> Children
 }
 
 // Has a fact no seen child? The walk ends with the first.
-pub fn is_childless(table: &[u32], n: u32, used: u32, r: u32) -> bool
-    requires shaped { Shaped table.now used n }
-    requires le_r { (1 ≤ r) × (r ≤ used) }
-    ensures { result ≡ is_empty (children_in (nodes table.now used) r) }
+pub fn is_childless(facts: &Facts, r: u32) -> bool
+    requires { (1 ≤ r) × (r ≤ facts.now.used) }
+    ensures { result ≡ is_empty (children_in (facts_of facts.now) r) }
 {
-    let mut child = field(table, r, CHILD);
+    let mut child = facts.child(r);
     while child != 0 {
-        if field(table, child, SEEN) == 1 {
+        if facts.is_seen(child) {
             return false;
         }
-        child = field(table, child, NEXT);
+        child = facts.next(child);
     }
     true
 }
 
 // The last word of a fact whose seen children end at this key.
-pub fn last_word(table: &[u32], n: u32, used: u32, r: u32, last: u32) -> u32
-    requires shaped { Shaped table.now used n }
-    requires le_r { (1 ≤ r) × (r ≤ used) }
-    requires last_value { last ≡ last_key (nodes table.now used) r }
-    ensures { result ≡ last_word (nodes table.now used) r }
+pub fn last_word(facts: &Facts, r: u32, last: u32) -> u32
+    requires le_r { (1 ≤ r) × (r ≤ facts.now.used) }
+    requires last_value { last ≡ last_key (facts_of facts.now) r }
+    ensures { result ≡ last_word (facts_of facts.now) r }
 {
-    let word = last / WORD_BYTES;
-    let count = field(table, r, COUNT);
-    if word < count { count } else { word }
+    facts.count(r).max(last / WORD_BYTES)
 }

@@ -25,8 +25,8 @@ use Rattle.paths.specs.Shape.{Shaped}
 use Rattle.paths.specs.Update.{with_field}
 use Rattle.paths.specs.Represents.{Represents}
 use Rattle.paths.proofs.Reach.{shaped_ordered}
-use Rattle.paths.proofs.Walk.{left_to}
-use Rattle.paths.proofs.Tail.{next_less_to}
+use Rattle.paths.proofs.Walk.{left}
+use Rattle.paths.proofs.Tail.{next_less}
 use Rattle.marks.specs.Names.{is_range, drop_name}
 use Rattle.marks.specs.Hints.{without_range, clear_range_hints}
 use Rattle.marks.specs.Dropping.{drop_range}
@@ -109,11 +109,11 @@ module _ (t₁ : List ℕ) (used N p : ℕ) (t : List ℕ) (c : ℕ) (C : Cleari
     kid' : Kid t' used p c
     kid' = record { above = kid.above; used = kid.used; parent = parent_kept t used c c1 kid.used t' same ∙ kid.parent }
 
-    pub clearing_less : (c' : ℕ) → p ≤ used → c' ≡ next_of t' c → left_to (top t₁) c' (key_of t' c') < left_to (top t₁) c (key_of t c)
+    pub clearing_less : (c' : ℕ) → p ≤ used → c' ≡ next_of t' c → left (top t₁) c' (key_of t' c') < left (top t₁) c (key_of t c)
     clearing_less c' pu e =
         let q = key_kept t used c c1 kid.used t' same in
         let h : key_of t' c ≤ top t₁ = rw (q, key_kept t₁ used c c1 kid.used t (kept c c1 kid.used)) (key_le t₁ c) in
-        rw q at (next_less_to t' used p (top t₁) c c' S.linked p1 pu kid' h e)
+        rw q at (next_less t' used p (top t₁) c c' S.linked p1 pu kid' h e)
 
     pub clearing_next : (c' : ℕ) → c' ≡ next_of t' c → Clearing t₁ used N p t' c'
     clearing_next c' e =

@@ -8,39 +8,23 @@ use Rattle.facts.specs.Linked.{Linked}
 use Rattle.facts.specs.Linked.{kids_of}
 use Rattle.facts.proofs.Kids.{chain_kids, kids_in_lem}
 use Rattle.paths.specs.Shape.{Shaped}
-use Rattle.paths.proofs.Walk.{At, left, at_less, left_to, at_less_to}
-
--- a number of a slice of u32 has 32 bits
-pub key_fits : (t : List ℕ) → ((i : ℕ) → Fits w32 (get_or t i 0)) → (c : ℕ) → key_of t c < 2 ^ 32
-unfolding fld
-key_fits t h c = (h ((c - 1) * record_width + 0)).fits
+use Rattle.paths.proofs.Walk.{At, left, at_less}
 
 -- a used record can be read
 pub has_field : (t : List ℕ) (used N r f : ℕ) → Shaped t used N → 1 ≤ r → r ≤ used → f < record_width → Has t r f
 has_field t used N r f S r1 ru h = let w = S.linked.whole in record { from = r1; within = omega arith; field = h }
 
 -- the next child of p has a higher key, so that less is left
-pub next_less : (t : List ℕ) (u p c c' : ℕ) → Linked t u → 1 ≤ p → p ≤ u → Kid t u p c → key_of t c < 2 ^ 32 → c' ≡ next_of t c
-    → left c' (key_of t c') < left c (key_of t c)
-next_less t u p c c' L p1 pu K lt e =
+pub next_less : (t : List ℕ) (u p m c c' : ℕ) → Linked t u → 1 ≤ p → p ≤ u → Kid t u p c → key_of t c ≤ m → c' ≡ next_of t c
+    → left m c' (key_of t c') < left m c (key_of t c)
+next_less t u p m c c' L p1 pu K lt e =
     let n : c ≡ 0 → ⊥ = λ z. omega (arith, K.above) in
     let A : At t u p (key_of t c) c = record {
       low = key_of t c;
       below = omega arith;
       first = record { none = λ z. absurd (n z); kid = λ _. K; from = λ _. omega arith; least = λ r J h. h };
     } in
-    at_less t u p L p1 pu (key_of t c) c c' A n lt e
-
-pub next_less_to : (t : List ℕ) (u p m c c' : ℕ) → Linked t u → 1 ≤ p → p ≤ u → Kid t u p c → key_of t c ≤ m → c' ≡ next_of t c
-    → left_to m c' (key_of t c') < left_to m c (key_of t c)
-next_less_to t u p m c c' L p1 pu K lt e =
-    let n : c ≡ 0 → ⊥ = λ z. omega (arith, K.above) in
-    let A : At t u p (key_of t c) c = record {
-      low = key_of t c;
-      below = omega arith;
-      first = record { none = λ z. absurd (n z); kid = λ _. K; from = λ _. omega arith; least = λ r J h. h };
-    } in
-    at_less_to t u p L p1 pu m (key_of t c) c c' A n lt e
+    at_less t u p L p1 pu m (key_of t c) c c' A n lt e
 
 -- the walk stands at c, with the children ns before it
 pub record Tail (t : List ℕ) (u p c : ℕ) (ns : List ℕ) : Type 0 where

@@ -18,35 +18,20 @@ pub record At (t : List ℕ) (u p k c : ℕ) : Type 0 where
   pub below : low ≤ k
   pub first : First t u p low c
 
--- what is left of the keys at c, 0 at the chain's end
-pub left : ℕ → ℕ → ℕ
-left zero k = 0
-left (suc c) k = 2 ^ 32 - k
+-- what is left of keys up to m at c, 0 at the chain's end
+pub left : ℕ → ℕ → ℕ → ℕ
+left m zero k = 0
+left m (suc c) k = m + 1 - k
 
-pub left_some : (c k : ℕ) → (c ≡ 0 → ⊥) → left c k ≡ 2 ^ 32 - k
+pub left_some : (m c k : ℕ) → (c ≡ 0 → ⊥) → left m c k ≡ m + 1 - k
 unfolding left
-left_some zero k n = absurd (n refl)
-left_some (suc c) k n = refl
+left_some m zero k n = absurd (n refl)
+left_some m (suc c) k n = refl
 
-pub left_none : (c k : ℕ) → c ≡ 0 → left c k ≡ 0
+pub left_none : (m c k : ℕ) → c ≡ 0 → left m c k ≡ 0
 unfolding left
-left_none zero k n = refl
-left_none (suc c) k n = absurd (omega arith)
-
--- the same with keys up to m
-pub left_to : ℕ → ℕ → ℕ → ℕ
-left_to m zero k = 0
-left_to m (suc c) k = m + 1 - k
-
-pub left_to_some : (m c k : ℕ) → (c ≡ 0 → ⊥) → left_to m c k ≡ m + 1 - k
-unfolding left_to
-left_to_some m zero k n = absurd (n refl)
-left_to_some m (suc c) k n = refl
-
-pub left_to_none : (m c k : ℕ) → c ≡ 0 → left_to m c k ≡ 0
-unfolding left_to
-left_to_none m zero k n = refl
-left_to_none m (suc c) k n = absurd (omega arith)
+left_none m zero k n = refl
+left_none m (suc c) k n = absurd (omega arith)
 
 -- a child has its fields
 pub kid_has : (t : List ℕ) (u p c f : ℕ) → Linked t u → Kid t u p c → f < record_width → Has t c f
@@ -60,27 +45,16 @@ module _ (t : List ℕ) (u p : ℕ) (L : Linked t u) (p1 : 1 ≤ p) (pu : p ≤ 
   at_has k c f a n h = kid_has t u p c f L (a.first.kid n) h
 
   -- the keys rise, so that less is left
-  pub at_less : (k c c' : ℕ) → At t u p k c → (c ≡ 0 → ⊥) → key_of t c < 2 ^ 32 → c' ≡ next_of t c → left c' (key_of t c') < left c (key_of t c)
-  at_less k c c' a n lt e = rw (left_some c (key_of t c) n) (go c' refl)
+  pub at_less : (m k c c' : ℕ) → At t u p k c → (c ≡ 0 → ⊥) → key_of t c ≤ m → c' ≡ next_of t c → left m c' (key_of t c') < left m c (key_of t c)
+  at_less m k c c' a n lt e = rw (left_some m c (key_of t c) n) (go c' refl)
     where
-      go : (d : ℕ) → c' ≡ d → left c' (key_of t c') < 2 ^ 32 - key_of t c
-      go zero z = rw (left_none c' (key_of t c') z) (omega arith)
+      go : (d : ℕ) → c' ≡ d → left m c' (key_of t c') < m + 1 - key_of t c
+      go zero z = rw (left_none m c' (key_of t c') z) (omega arith)
       go (suc d) z =
           let n' : c' ≡ 0 → ⊥ = λ y. omega arith in
           let f : First t u p (key_of t c + 1) c' = rw e (L.next p c p1 (a.first.kid n)) in
           let g = f.from n' in
-          rw (left_some c' (key_of t c') n') (omega arith)
-
-  pub at_less_to : (m k c c' : ℕ) → At t u p k c → (c ≡ 0 → ⊥) → key_of t c ≤ m → c' ≡ next_of t c → left_to m c' (key_of t c') < left_to m c (key_of t c)
-  at_less_to m k c c' a n lt e = rw (left_to_some m c (key_of t c) n) (go c' refl)
-    where
-      go : (d : ℕ) → c' ≡ d → left_to m c' (key_of t c') < m + 1 - key_of t c
-      go zero z = rw (left_to_none m c' (key_of t c') z) (omega arith)
-      go (suc d) z =
-          let n' : c' ≡ 0 → ⊥ = λ y. omega arith in
-          let f : First t u p (key_of t c + 1) c' = rw e (L.next p c p1 (a.first.kid n)) in
-          let g = f.from n' in
-          rw (left_to_some m c' (key_of t c') n') (omega arith)
+          rw (left_some m c' (key_of t c') n') (omega arith)
 
   pub at_found : (k c : ℕ) → At t u p k c → (c ≡ 0 → ⊥) → key_of t c ≡ k → Found t u p k c
   at_found k c a n e = record { none = λ z. absurd (n z); kid = a.first.kid; key = λ _. e }

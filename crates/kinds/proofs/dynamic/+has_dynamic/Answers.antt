@@ -1,6 +1,6 @@
 use Rattle.std.proofs.Common.{sym, ◌∙◌, arith}
 use Rattle.facts.proofs.Chains.{key_le}
-use Rattle.paths.proofs.Tail.{tail_kid, next_less_to}
+use Rattle.paths.proofs.Tail.{tail_kid, next_less}
 use Rattle.kinds.proofs.DynamicLaws.{dynamic_unseen, dynamic_here, seeking_start, seeking_found, seeking_next, seeking_done}
 use Rattle.kinds.proofs.dynamic.+has_dynamic.Goals as goal
 
@@ -33,7 +33,7 @@ next-c-requires t c =
 
 pub loop-c-smaller : goal.loop-c-smaller
 loop-c-smaller t c =
-    next_less_to _ _ _ _ _ _ c.args.facts.now.shaped.linked c.requires.0 c.requires.1
+    next_less _ _ _ _ _ _ c.args.facts.now.shaped.linked c.requires.0 c.requires.1
     (tail_kid _ _ _ _ _ c.loop-c.invariant.tail c.loop-c-test.true) (key_le _ _) c.next-c.ensures
 
 pub loop-c-preserved : goal.loop-c-preserved

@@ -2,7 +2,7 @@ use Rattle.std.proofs.Common.{◌≡◌, ◌-◌}
 use Rattle.facts.proofs.Chains.{top}
 use Rattle.facts.specs.Table.{key_of}
 use Rattle.paths.specs.Lent.{IsSameTable}
-use Rattle.paths.proofs.Walk.{left_to}
+use Rattle.paths.proofs.Walk.{left}
 use Rattle.marks.proofs.WalkLaws.{Clearing}
 use Rattle.marks.proofs.walk.+clear_below.Given as goal
 
@@ -12,7 +12,7 @@ invariant-loop-c l =
     × (l.facts.used ≡ l.initial.facts.used) × IsSameTable l.initial.facts l.facts
 
 abbrev pub decreases-loop-c : goal.decreases-loop-c
-decreases-loop-c l = left_to (top l.initial.facts.table.now) l.c (key_of l.facts.table.now l.c)
+decreases-loop-c l = left (top l.initial.facts.table.now) l.c (key_of l.facts.table.now l.c)
 
 abbrev pub decreases-clear_below : goal.decreases-clear_below
 decreases-clear_below l = l.facts.now.used - l.p

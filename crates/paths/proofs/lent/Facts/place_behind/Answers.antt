@@ -1,4 +1,5 @@
 use Rattle.std.proofs.Common.{refl, sym, ◌∙◌}
+use Rattle.facts.proofs.Chains.{key_le}
 use Rattle.paths.proofs.Walk.{at_less}
 use Rattle.paths.proofs.RunLaws.{run_next, run_end}
 use Rattle.paths.proofs.Spotting.{spotting_start, spotting_next}
@@ -16,7 +17,7 @@ loop-next-smaller c =
     let p = c.requires.le_parent in
     let I = c.loop-parent.invariant in
     run_end _ _ _ _ I.1
-    (at_less _ _ _ c.args.self.now.shaped.linked p.0 p.1 _ _ _ I.0.at I.1.some (rw c.field.ensures at c.field.type_inv) c.field-next.ensures)
+    (at_less _ _ _ c.args.self.now.shaped.linked p.0 p.1 _ _ _ _ I.0.at I.1.some (key_le _ _) c.field-next.ensures)
 
 pub loop-next-preserved : goal.loop-next-preserved
 loop-next-preserved c =
@@ -28,7 +29,7 @@ pub loop-parent-smaller : goal.loop-parent-smaller
 loop-parent-smaller c =
     let p = c.requires.le_parent in
     let I = c.loop-parent.invariant in
-    at_less _ _ _ c.args.self.now.shaped.linked p.0 p.1 _ _ _ I.0.at I.1.some (rw c.field.ensures at c.field.type_inv)
+    at_less _ _ _ c.args.self.now.shaped.linked p.0 p.1 _ _ _ _ I.0.at I.1.some (key_le _ _)
     (sym c.if-next-follow.false ∙ c.field-next.ensures)
 
 pub loop-parent-preserved : goal.loop-parent-preserved
