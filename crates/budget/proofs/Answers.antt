@@ -1,19 +1,16 @@
 -- What the walk from the root leaves of 8,192 is the answer.
-use Prim.Native.Nat.{ℕ, ◌-◌}
-use mathlib.Core.Path.{◌≡◌, refl, sym, ◌∙◌}
+use Prim.Native.Nat.{ℕ}
+use mathlib.Core.Path.{◌≡◌, sym}
 use mathlib.Core.List.{List}
 use Rattle.limits.specs.Limits.{budget_max}
-use Rattle.facts.specs.State.{Node, nodes}
-use Rattle.facts.specs.Sound.{Sound}
+use Rattle.facts.specs.State.{Node}
 use Rattle.facts.specs.Formed.{Formed}
-use Rattle.facts.proofs.States.{sound_formed}
 use Rattle.paths.proofs.Sounds.{formed_ordered, formed_under}
-use Rattle.budget.specs.Answer.{budget_of}
-use Rattle.budget.specs.Below.{leaves, budget_below, budget_from, Paid}
+use Rattle.std.specs.Prelude.{Some, None}
+use Rattle.std.specs.declared.option.Option.{Option}
 use Rattle.budget.specs.declared.Below.{Below}
-use Rattle.budget.specs.declared.Budget.TheVariants.{Left, Over}
-use Rattle.list.specs.Seen.{last_word}
-use Rattle.budget.proofs.WalkLaws.{from_some, from_none}
+use Rattle.budget.specs.Answer.{left_of, budget_of}
+use Rattle.budget.specs.Below.{leaves, budget_below, Paid}
 use Rattle.budget.proofs.Spends.{spend_walk}
 use Rattle.budget.proofs.Shallows.{shallow_walk}
 
@@ -22,13 +19,7 @@ unfolding budget_below budget_of leaves
 budget_walk s F =
     λ i. leaves (shallow_walk s (formed_ordered s F) (formed_under s F) i) (spend_walk s (formed_ordered s F) (formed_under s F) i) budget_max
 
--- so the walk answers it
-module _ {t : List ℕ} {u N : ℕ} {b : Below} (S : Sound t u N) (P : Paid (nodes t u) 1 0 budget_max b) where
-  is : budget_from b.left ≡ budget_of (nodes t u)
-  is = P.is ∙ budget_walk (nodes t u) (sound_formed t u N S)
-
-  pub root_over : b.left ≡ 0 → (Over ≡ budget_of (nodes t u)) × (◌≡◌ {A = ℕ} 0 0)
-  root_over z = (sym (from_none b.left z) ∙ is, refl)
-
-  pub root_left : (b.left ≡ 0 → ⊥) → (Left (b.left - 1) ≡ budget_of (nodes t u)) × (b.last_word ≡ last_word (nodes t u) 1)
-  root_left n = (sym (from_some b.left n) ∙ is, P.last n)
+-- what the walk answers, its last word apart
+pub paid_left : (s : List Node) (r depth left : ℕ) (b : Option Below) → Paid s r depth left b → left_of b ≡ budget_below s r depth left
+paid_left s r depth left (Some below) P = sym P.0
+paid_left s r depth left None P = sym P

@@ -1,95 +1,73 @@
 // "A node costs one more than its last word": the cost of each seen record is taken off what is left, children first.
-// What is left goes from call to call as one number, one more than what is left, 0 where the facts are over: an enum
-// would go through memory for each record.
-ghost use Rattle.std.specs.Prelude.{◌≡◌, ◌-◌, ◌≤◌};
+ghost use Rattle.std.specs.Prelude.{◌≡◌, ◌≤◌, suc, true, IfSome};
 ghost use Rattle.limits.specs.Limits.{depth_max};
-ghost use Rattle.facts.specs.Table.{seen_of};
-ghost use Rattle.facts.specs.State.{nodes};
+ghost use Rattle.facts.specs.State.{node_of};
 ghost use Rattle.facts.specs.Sound.{Sound};
+ghost use Rattle.paths.specs.Lent.{facts_of};
 ghost use Rattle.list.specs.Seen.{last_word};
-ghost use Rattle.paths.specs.Shape.{Shaped};
-ghost use Rattle.budget.specs.Answer.{budget_of, word_told};
-ghost use Rattle.budget.specs.Below.{Paid};
+ghost use Rattle.budget.specs.Answer.{left_of, budget_of};
+ghost use Rattle.budget.specs.Below.{leaves, Paid};
 
-use crate::{Below, Budget, Spent};
-use facts::field;
-use limits::fields::{CHILD, KEY, NEXT, SEEN};
+use crate::Below;
 use limits::{BUDGET_MAX, DEPTH_MAX};
 use list::last_word;
+use paths::Facts;
 
-// One more than a record with this last word leaves of what its children left, 0 where it costs more than that.
-fn own_left(left: u32, last: u32) -> u32
-    ensures { result ≡ left - last }
+// What a record with this last word leaves of what its children left, if that is enough.
+fn own_left(left: u32, last: u32) -> Option<u32>
+    ensures { result ≡ leaves true (suc last) left }
 {
     if left <= last {
-        return 0;
+        return None;
     }
-    left - last
+    Some(left - last - 1)
 }
 
-// What is left after a seen record, which stands at this depth, and all below it. The walk calls itself for each seen
-// child; one with no child of its own costs its last word and one, which is taken off at once. A child's number is
-// higher than its parent's, so that fewer numbers are left above it. The walk ends with the first record that is too
-// deep or costs more than is left. A child often stands in the chain right behind the one before it: where it does, the
-// walk counts on instead of waiting for the number that it loads.
-fn left_below(table: &[u32], n: u32, used: u32, r: u32, depth: u32, left: u32) -> Below
-    requires shaped { Shaped table.now used n }
-    requires le_r { (1 ≤ r) × (r ≤ used) × (depth ≤ depth_max) × (seen_of table.now r ≡ 1) }
-    ensures { Paid (nodes table.now used) r depth left result }
+// What is left after a seen record, which stands at this depth, and all below it, unless that is too deep or costs too
+// much. The walk calls itself for each seen child; one with no child of its own costs its last word and one, which is
+// taken off at once. A child's number is higher than its parent's, so that fewer numbers are left above it. A child
+// often stands in the chain right behind the one before it: where it does, the walk counts on instead of waiting for
+// the number that it loads.
+fn left_below(facts: &Facts, r: u32, depth: u32, left: u32) -> Option<Below>
+    requires le_r { (1 ≤ r) × (r ≤ facts.now.used) × (depth ≤ depth_max) }
+    requires seen { (node_of (facts_of facts.now) r).seen ≡ 1 }
+    ensures { Paid (facts_of facts.now) r depth left result }
 {
     let mut rest = left;
     let mut last_key: u32 = 0;
-    let mut next = field(table, r, CHILD);
+    let mut next = facts.child(r);
     while next != 0 {
         let mut c = next;
         loop {
-            if field(table, c, SEEN) == 1 {
-                let x = if depth == DEPTH_MAX {
-                    0
-                } else if field(table, c, CHILD) == 0 {
-                    own_left(rest, last_word(table, n, used, c, 0))
-                } else {
-                    left_below(table, n, used, c, depth + 1, rest).left
-                };
-                if x == 0 {
-                    return Below {
-                        left: 0,
-                        last_word: 0,
-                    };
+            if facts.is_seen(c) {
+                if depth == DEPTH_MAX {
+                    return None;
                 }
-                rest = x - 1;
-                last_key = field(table, c, KEY);
+                rest = if facts.child(c) == 0 {
+                    own_left(rest, last_word(facts, c, 0))?
+                } else {
+                    left_below(facts, c, depth + 1, rest)?.left
+                };
+                last_key = facts.key(c);
             }
             let follow = c as usize + 1;
-            next = field(table, c, NEXT);
+            next = facts.next(c);
             if next as usize != follow {
                 break;
             }
             c = follow as u32;
         }
     }
-    let last = last_word(table, n, used, r, last_key);
-    Below {
-        left: own_left(rest, last),
-        last_word: last,
-    }
+    let last_word = last_word(facts, r, last_key);
+    let left = own_left(rest, last_word)?;
+    Some(Below { left, last_word })
 }
 
 // "`fits_type_budget` starts at depth 0 with 8,192." The root is seen.
-pub fn fits_type_budget(table: &[u32], n: u32, used: u32) -> Spent
-    requires { Sound table.now used n }
-    ensures budget_value { result.budget ≡ budget_of (nodes table.now used) }
-    ensures last_word_value { result.last_word ≡ word_told result.budget (last_word (nodes table.now used) 1) }
+pub fn fits_type_budget(facts: &Facts) -> Option<Below>
+    requires { Sound facts.now.table.now facts.now.used facts.now.records }
+    ensures budget_value { left_of result ≡ budget_of (facts_of facts.now) }
+    ensures last_word_value { IfSome result (λ below. below.last_word ≡ last_word (facts_of facts.now) 1) }
 {
-    let below = left_below(table, n, used, 1, 0, BUDGET_MAX);
-    if below.left == 0 {
-        return Spent {
-            budget: Budget::Over,
-            last_word: 0,
-        };
-    }
-    Spent {
-        budget: Budget::Left(below.left - 1),
-        last_word: below.last_word,
-    }
+    left_below(facts, 1, 0, BUDGET_MAX)
 }
