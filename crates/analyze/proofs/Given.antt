@@ -1,4 +1,5 @@
 -- The names that a step gives are names: question 2's codes and widths.
+use Rattle.std.proofs.Common.{Option, Some, None}
 use Prim.Native.Nat.{ℕ, ◌+◌, ◌*◌, ◌/◌, ◌%◌, ◌≤◌, ◌<◌}
 use mathlib.Core.Path.{◌≡◌, refl, ap, ◌∙◌}
 use mathlib.Core.Bool.{Bool, true, false, cond, ◌&&◌, and-eq-true_iff}
@@ -89,18 +90,24 @@ width_name_lem w = one (eqb w 1) (eqb w address_bits) (between 1 255 w && eqb (w
         let z = eqb-true (w % 8) 0 p.1 in
         inr (uint_name w (omega arith) (omega arith) z)
 
--- a guarded SHL's bytes are 32 at most
-pub shift_most : (bytes : List ℕ) (pc shift : ℕ) → bytes_shift bytes pc shift ≤ 32
+-- a guarded SHL's bytes are 1 to 32
+abbrev pub BytesFit : Option ℕ → Type 0
+BytesFit None = Unit {0}
+BytesFit (Some n) = (1 ≤ n) × (n ≤ 32)
+
+pub shift_most : (bytes : List ℕ) (pc shift : ℕ) → BytesFit (bytes_shift bytes pc shift)
 unfolding bytes_shift
 shift_most bytes pc shift = go (is_place (guard_failure_pc bytes pc true) && between 8 256 shift && eqb (shift % 8) 0) refl
   where
     guarded : Bool
     guarded = is_place (guard_failure_pc bytes pc true)
 
-    go : (b : Bool) → (guarded && between 8 256 shift && eqb (shift % 8) 0) ≡ b → cond b (shift / 8) 0 ≤ 32
+    go : (b : Bool) → (guarded && between 8 256 shift && eqb (shift % 8) 0) ≡ b → BytesFit (cond b (Some (shift / 8)) None)
     go true e =
         let p = ((and-eq-true_iff (guarded && between 8 256 shift) (eqb (shift % 8) 0)).0 e).0 in
         let q = ((and-eq-true_iff guarded (between 8 256 shift)).0 p).1 in
-        let u = leb-true shift 256 ((and-eq-true_iff (leb 8 shift) (leb shift 256)).0 q).1 in
-        omega arith
-    go false e = omega arith
+        let r = (and-eq-true_iff (leb 8 shift) (leb shift 256)).0 q in
+        let l = leb-true 8 shift r.0 in
+        let u = leb-true shift 256 r.1 in
+        (omega arith, omega arith)
+    go false e = tt

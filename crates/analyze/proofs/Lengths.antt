@@ -1,4 +1,5 @@
 -- The plans of MUL, SHL, LT and GT are proper.
+use Rattle.std.proofs.Common.{Option, Some, None}
 use Prim.Native.Nat.{ℕ, ◌+◌, ◌*◌, ◌≤◌, ◌<◌}
 use mathlib.Core.Path.{◌≡◌, refl}
 use mathlib.Core.Bool.{Bool, true, ◌&&◌}
@@ -39,7 +40,7 @@ use Rattle.analyze.specs.Length.{mark_length, name_path, multiplied, multiply, u
 use Rattle.analyze.specs.Length.{bytes_shift, bytes_named, shl_of, shl, compare_with, compare}
 use Rattle.analyze.specs.Ready.{LabelReaches, ChoiceReaches, StepReaches}
 use Rattle.analyze.proofs.Reach.{step_choice}
-use Rattle.analyze.proofs.Given.{bytes_name, dynamic_bytes_name, string_name, shift_most}
+use Rattle.analyze.proofs.Given.{bytes_name, dynamic_bytes_name, string_name, BytesFit, shift_most}
 use Rattle.analyze.proofs.Proper.{Allowed, Proper, cond_has, cond_given, arg_has, may_none, may_mark}
 use Rattle.analyze.proofs.Proper.{proper_three, proper_one, proper_none, proper_stack, proper_memory}
 use Rattle.analyze.proofs.Proper.{proper_mark, proper_mark_name}
@@ -104,12 +105,10 @@ module _ (s : List Node) (O : Ordered s) (Fits Slot : Type 0) (pick : ℕ) where
   proper_mul_by (Chosen v own other) general K G slot =
       proper_multiply v.path other.label K.0 K.1 slot (value_of other.word)
 
-  proper_bytes_named : (v : Val) (n : ℕ) → IsUsed (length s) v.path → n ≤ 32 → P (bytes_named v n)
-  proper_bytes_named v n U h =
-      cond_given P (eqb n 0) _ _ (λ e. proper_mark v U)
-      (λ e.
-      let z = eqb-false n 0 e in
-      proper_mark_name v (code.fixed_bytes + n) by_the_rest U (omega arith) (omega arith) (bytes_name n (omega arith) h))
+  proper_bytes_named : (v : Val) (o : Option ℕ) → IsUsed (length s) v.path → BytesFit o → P (bytes_named v o)
+  proper_bytes_named v None U h = proper_mark v U
+  proper_bytes_named v (Some n) U h =
+      proper_mark_name v (code.fixed_bytes + n) by_the_rest U (omega arith) (omega arith) (bytes_name n h.0 h.1)
 
   proper_compare_with : (l : Label) (bound : ℕ) (general : Choice) → LabelReaches (length s) l
       → ChoiceReaches (length s) general → Slot → P (compare_with s l bound general)

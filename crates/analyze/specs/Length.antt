@@ -1,5 +1,5 @@
 -- Lengths: MUL and SHL of one, and its comparisons.
-use Rattle.std.specs.Prelude.{ℕ, ◌+◌, ◌*◌, ◌/◌, ◌%◌, Bool, true, false, cond, ◌&&◌, ◌||◌, List, eqb}
+use Rattle.std.specs.Prelude.{ℕ, ◌+◌, ◌*◌, ◌/◌, ◌%◌, Bool, true, false, cond, ◌&&◌, ◌||◌, List, eqb, Option, Some, None}
 use Rattle.limits.specs.Between.{between}
 use Rattle.limits.specs.Codes as code
 use Rattle.limits.specs.Confidences.{by_bytes, by_the_rest}
@@ -11,8 +11,6 @@ use Rattle.word.specs.declared.Multiplier.{Multiplier}
 use Rattle.word.specs.declared.Multiplier.TheVariants.{One, Two, Array, Other}
 use Rattle.opcode.specs.Opcode.{LT}
 use Rattle.code.specs.Guard.{guard_failure_pc}
-use Rattle.code.specs.declared.Place.{Place}
-use Rattle.code.specs.declared.Place.TheVariants.{At, Nowhere}
 use Rattle.facts.specs.State.{Node, node_of}
 use Rattle.marks.specs.Hints.{has_range_hint}
 use Rattle.labels.specs.declared.Val.{Val}
@@ -71,18 +69,19 @@ unfoldable pub mul : List Node → Step → Plan
 mul s x = mul_by s (choose pattern.Length x.first x.second) (choose pattern.Any x.first x.second)
 
 -- does `guard_failure_pc` name a place?
-abbrev pub is_place : Place → Bool
-is_place (At place) = true
-is_place Nowhere = false
+abbrev pub is_place : Option ℕ → Bool
+is_place (Some place) = true
+is_place None = false
 
--- a guarded SHL of an argument by whole bytes checks its type: the bytes, 1 to 32; 0 for a shift that is no such check
+-- a guarded SHL of an argument by whole bytes checks its type: the bytes, 1 to 32, if the shift is such a check
 -- (decision D71)
-unfoldable pub bytes_shift : List ℕ → ℕ → ℕ → ℕ
+unfoldable pub bytes_shift : List ℕ → ℕ → ℕ → Option ℕ
 bytes_shift bytes pc shift =
-    cond (is_place (guard_failure_pc bytes pc true) && between 8 256 shift && eqb (shift % 8) 0) (shift / 8) 0
+    cond (is_place (guard_failure_pc bytes pc true) && between 8 256 shift && eqb (shift % 8) 0) (Some (shift / 8)) None
 
-abbrev pub bytes_named : Val → ℕ → Plan
-bytes_named v n = cond (eqb n 0) (one_operation (mark v)) (mark_and_name v (code.fixed_bytes + n) by_the_rest)
+abbrev pub bytes_named : Val → Option ℕ → Plan
+bytes_named v None = one_operation (mark v)
+bytes_named v (Some n) = mark_and_name v (code.fixed_bytes + n) by_the_rest
 
 -- SHL: path root and active is an arm of its own, for any offset and added value; otherwise only offset 0 and added 0,
 -- which multiplies (decision D9)

@@ -1,10 +1,8 @@
 -- ADD.
-use Rattle.std.specs.Prelude.{ℕ, ◌+◌, ◌-◌, ◌^◌, Bool, cond, not, ◌&&◌, List, eqb, ltb}
+use Rattle.std.specs.Prelude.{ℕ, ◌+◌, ◌-◌, ◌^◌, Bool, cond, not, ◌&&◌, List, eqb, ltb, Option, Some, None}
 use Rattle.word.specs.Value.{value_of}
 use Rattle.word.specs.Arithmetic.{sum_of}
 use Rattle.word.specs.Kept.{kept_of}
-use Rattle.word.specs.declared.Kept.{Kept}
-use Rattle.word.specs.declared.Kept.TheVariants.{Number, TooLarge}
 use Rattle.word.specs.declared.U256.{U256}
 use Rattle.facts.specs.State.{Node}
 use Rattle.paths.specs.Depth.{depth_of}
@@ -30,9 +28,9 @@ unfoldable pub winner : List Node → Val → Val → Val
 winner s f g = cond (ltb (depth_of s g.path) (depth_of s f.path)) f g
 
 -- the top labelled with a sum "kept if below 2^32"; one that is not kept leaves the top as it was (decision D8)
-abbrev pub kept_label : Val → Kept → OnStack
-kept_label v TooLarge = stack.Keep
-kept_label v (Number sum) = stack.Label (with_added v sum)
+abbrev pub kept_label : Val → Option ℕ → OnStack
+kept_label v None = stack.Keep
+kept_label v (Some sum) = stack.Label (with_added v sum)
 
 -- both operands are arguments: `f_add_val.checked_add(s_add_val)`
 unfoldable pub add_both : List Node → Val → Val → Plan
@@ -45,9 +43,9 @@ is_less_one v own other = is_length v && not (eqb v.path 1) && eqb (value_of own
 
 -- the top's word is 0 then, beside the label of a sum that was kept; as 2^256 - 1 is not kept, the second case never
 -- comes up
-abbrev pub zero_beside : Val → Kept → OnStack
-zero_beside v TooLarge = stack.Word 0
-zero_beside v (Number sum) = stack.WordLabel 0 (with_added v sum)
+abbrev pub zero_beside : Val → Option ℕ → OnStack
+zero_beside v None = stack.Word 0
+zero_beside v (Some sum) = stack.WordLabel 0 (with_added v sum)
 
 -- "Adding a constant: sums are taken modulo 2^256, then kept if below 2^32."
 unfoldable pub add_constant : Val → U256 → U256 → OnStack

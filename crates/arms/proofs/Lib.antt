@@ -1,9 +1,3 @@
-mod NamingLaws
-mod Shifts
-mod RangeLaws
-mod HintLaws
-mod SumLaws
-mod LoadLaws
-mod LengthLaws
 mod ByOpcode
-mod Planning
+mod LengthLaws
+mod LoadLaws

@@ -45,6 +45,7 @@ fn arm(table: &[u32], n: u32, used: u32, active: bool, code: &[u8], step: Step) 
 }
 
 // What a step does behind its first phase: the range rule's plan if it applies, else its arm's.
+#[tactic(auto, unfolding(analyze::specs::Analyze::plan_of, analyze::specs::Phases::active_after))]
 pub fn plan_of(table: &[u32], n: u32, used: u32, active: bool, code: &[u8], step: Step) -> Plan
     requires { Ready table.now used n × StepReaches used step }
     ensures { result ≡ plan_of (nodes table.now used) active code.now step }

@@ -12,11 +12,7 @@ use operations::Operation;
 fn is_arg(label: Label) -> bool
     ensures { result ≡ is_arg label }
 {
-    if let Label::Arg(_) = label {
-        true
-    } else {
-        false
-    }
+    matches!(label, Label::Arg(_))
 }
 
 // 1 where EQ compares two arguments, which blocks both: prior word comparisons rule out new range hints.
@@ -49,6 +45,7 @@ fn both(first: Operation, second: Operation) -> Hints
 }
 
 // At DIV, MOD, SUB, EXP, EQ, ISZERO, JUMPI and SLOAD. Comparing a validated word with a constant is its normal use.
+#[tactic(auto, unfolding(analyze::specs::Phases::clear_operands))]
 fn clear_operands(step: Step) -> Hints
     ensures { result ≡ clear_operands step }
 {
@@ -67,6 +64,7 @@ fn clear_operands(step: Step) -> Hints
 }
 
 // The operands' hints, or all at a REVERT: an aborted decoder path does not establish a range type.
+#[tactic(auto, unfolding(analyze::specs::Phases::hints_of))]
 pub fn hints_of(active: bool, step: Step) -> Hints
     ensures { result ≡ hints_of active step }
 {

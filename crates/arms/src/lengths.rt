@@ -1,5 +1,6 @@
 // Lengths: MUL and SHL of one, and its comparisons.
 ghost use Rattle.std.specs.Prelude.{◌≡◌, ◌*◌, ◌≤◌};
+ghost use Rattle.std.specs.Option.{ForSome};
 ghost use Rattle.limits.specs.Limits.{word_bytes, array_count_max};
 ghost use Rattle.word.specs.Value.{value_of};
 ghost use Rattle.facts.specs.State.{nodes};
@@ -13,7 +14,7 @@ ghost use Rattle.word.specs.Multiplier.{multiplier_of};
 
 use crate::plans::{and_stack, mark_and_name, nothing, one_operation, three_operations};
 use analyze::{InMemory, OnStack, Plan};
-use code::{Place, guard_failure_pc};
+use code::guard_failure_pc;
 use facts::field;
 use labels::{Choice, Label, Pattern, Step, Val, choose, is_length, is_unmasked_length};
 use limits::WORD_BYTES;
@@ -27,7 +28,7 @@ use word::compare::equals_number;
 use word::multiply::read_multiplier;
 use word::power::power_of_two;
 use word::sum::keep;
-use word::{Kept, Multiplier, U256};
+use word::{Multiplier, U256};
 
 // The length marked, then the other operand's argument, and one operation more.
 fn mark_length(path: u32, other: Label, more: Operation) -> Plan
@@ -58,15 +59,10 @@ fn name_path(table: &[u32], n: u32, used: u32, path: u32, name: u32, confidence:
 fn with_ones(plan: Plan, path: u32, word: u32) -> Plan
     ensures { result ≡ with_ones plan path word }
 {
-    let first = plan.first;
-    let second = plan.second;
-    let third = plan.third;
     Plan {
-        first,
-        second,
-        third,
         stack: OnStack::Ones(path, word),
         memory: InMemory::Ones(path),
+        ..plan
     }
 }
 
@@ -83,8 +79,7 @@ fn multiplied(table: &[u32], n: u32, used: u32, path: u32, other: Label, factor:
     requires { Ready table.now used n × IsUsed used path }
     ensures { result ≡ multiplied (nodes table.now used) path other (multiplier_of (value_of factor)) }
 {
-    let said = read_multiplier(factor);
-    match said {
+    match read_multiplier(factor) {
         Multiplier::One => mark_length(
             path,
             other,
@@ -104,6 +99,7 @@ fn multiplied(table: &[u32], n: u32, used: u32, path: u32, other: Label, factor:
 }
 
 // The length at a path multiplied by a factor, beside the other operand's label.
+#[tactic(auto, unfolding(analyze::specs::Length::multiply))]
 fn multiply(table: &[u32], n: u32, used: u32, path: u32, other: Label, factor: U256) -> Plan
     requires { Ready table.now used n × IsUsed used path }
     ensures { result ≡ multiply (nodes table.now used) path other (value_of factor) }
@@ -115,6 +111,7 @@ fn multiply(table: &[u32], n: u32, used: u32, path: u32, other: Label, factor: U
 }
 
 // Marks it, unless it has a range name: a validated enum can be checked again, e.g. before a panic.
+#[tactic(auto, unfolding(analyze::specs::Length::unless_range))]
 fn unless_range(table: &[u32], n: u32, used: u32, val: Val) -> Plan
     requires { Ready table.now used n × IsUsed used val.path }
     ensures { result ≡ unless_range (nodes table.now used) val }
@@ -136,6 +133,7 @@ fn mark_first(table: &[u32], n: u32, used: u32, choice: Choice) -> Plan
     unless_range(table, n, used, val)
 }
 
+#[tactic(auto, unfolding(analyze::specs::Length::mul))]
 pub fn mul(table: &[u32], n: u32, used: u32, step: Step) -> Plan
     requires { Ready table.now used n × StepReaches used step }
     ensures { result ≡ mul (nodes table.now used) step }
@@ -152,41 +150,32 @@ pub fn mul(table: &[u32], n: u32, used: u32, step: Step) -> Plan
     multiply(table, n, used, val.path, label, word)
 }
 
-// The bytes that a guarded shift leaves of a word, 0 for a shift that is no such check.
-fn bytes_shift(code: &[u8], pc: u32, shift: U256) -> u32
+// The bytes that a guarded shift leaves of a word, if it is such a check.
+#[tactic(auto, unfolding(analyze::specs::Length::bytes_shift, word::specs::Kept::kept_of))]
+fn bytes_shift(code: &[u8], pc: u32, shift: U256) -> Option<u32>
     ensures { result ≡ bytes_shift code.now pc (value_of shift) }
 {
-    let place = guard_failure_pc(code, pc, true);
-    let Place::At(_) = place else {
-        return 0;
-    };
-    let kept = keep(shift);
-    let Kept::Number(bits) = kept else {
-        return 0;
-    };
-    if bits < 8 {
-        return 0;
+    guard_failure_pc(code, pc, true)?;
+    let bits = keep(shift)?;
+    if bits % 8 == 0 && 8 <= bits && bits <= 256 {
+        Some(bits / 8)
+    } else {
+        None
     }
-    if 256 < bits {
-        return 0;
-    }
-    if bits % 8 != 0 {
-        return 0;
-    }
-    bits / 8
 }
 
 // An argument of the root shifted while the decoder is active: a check of its type.
-fn bytes_named(val: Val, bytes: u32) -> Plan
-    requires { bytes ≤ 32 }
+fn bytes_named(val: Val, bytes: Option<u32>) -> Plan
+    requires { ForSome bytes (λ n. n ≤ 32) }
     ensures { result ≡ bytes_named val bytes }
 {
-    if bytes == 0 {
-        return one_operation(Operation::MarkNotBool(val.path, val.offset));
+    match bytes {
+        Some(bytes) => mark_and_name(val, FIXED_BYTES + bytes, BY_THE_REST),
+        None => one_operation(Operation::MarkNotBool(val.path, val.offset)),
     }
-    mark_and_name(val, FIXED_BYTES + bytes, BY_THE_REST)
 }
 
+#[tactic(auto, unfolding(analyze::specs::Length::shl, analyze::specs::Length::shl_of))]
 pub fn shl(table: &[u32], n: u32, used: u32, active: bool, code: &[u8], step: Step) -> Plan
     requires { Ready table.now used n × StepReaches used step }
     ensures { result ≡ shl (nodes table.now used) active code.now step }
@@ -209,6 +198,7 @@ pub fn shl(table: &[u32], n: u32, used: u32, active: bool, code: &[u8], step: St
 }
 
 // Is it compared with 0, or with 31, as a string for storage is?
+#[tactic(auto, unfolding(analyze::specs::Length::compares_length))]
 fn compares_length(bound: U256) -> bool
     ensures { result ≡ compares_length (value_of bound) }
 {
@@ -226,6 +216,7 @@ fn length_compared(path: u32, bound: U256) -> Plan
 }
 
 // The length arm for that operand and bound, else the general arm.
+#[tactic(auto, unfolding(analyze::specs::Length::compare_with))]
 fn compare_with(
     table: &[u32],
     n: u32,
@@ -247,6 +238,7 @@ fn compare_with(
 }
 
 // LT and GT, behind the range rule.
+#[tactic(auto, unfolding(analyze::specs::Length::compare))]
 pub fn compare(table: &[u32], n: u32, used: u32, step: Step) -> Plan
     requires { Ready table.now used n × StepReaches used step }
     ensures { result ≡ compare (nodes table.now used) step }

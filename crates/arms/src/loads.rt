@@ -17,8 +17,8 @@ use limits::confidences::BY_BYTES;
 use limits::{LOAD_MAX, SELECTOR_BYTES, WORD_BYTES};
 use opcode::CALLDATALOAD;
 use operations::Operation;
+use word::U256;
 use word::sum::keep;
-use word::{Kept, U256};
 
 // The label of an argument, nothing added and no mask.
 fn loaded_arg(offset: u32, path: u32) -> Label
@@ -33,6 +33,7 @@ fn loaded_arg(offset: u32, path: u32) -> Label
 }
 
 // Is it behind the selector, at a whole word?
+#[tactic(auto, unfolding(analyze::specs::Load::is_whole_word))]
 fn is_whole_word(added: u32) -> bool
     ensures { result ≡ is_whole_word added }
 {
@@ -44,6 +45,7 @@ fn is_whole_word(added: u32) -> bool
 
 // The offset from the full path: a word is taken off for each array on the label's path, whose length stands before its
 // elements.
+#[tactic(auto, unfolding(analyze::specs::Load::new_offset))]
 fn new_offset(table: &[u32], n: u32, used: u32, val: Val) -> u32
     requires ready { Ready table.now used n × IsUsed used val.path }
     requires add_val_value { is_whole_word val.add_val ≡ true }
@@ -86,6 +88,7 @@ fn followed(step: Step, val: Val, offset: u32) -> Plan
     )
 }
 
+#[tactic(auto, unfolding(analyze::specs::Load::labelled_load))]
 fn labelled_load(table: &[u32], n: u32, used: u32, step: Step, val: Val) -> Plan
     requires { Ready table.now used n × IsUsed used val.path }
     ensures { result ≡ labelled_load (nodes table.now used) step val }
@@ -108,11 +111,11 @@ fn found(step: Step, key: u32) -> Plan
     and_memory(known, Operation::Nothing, InMemory::Label(step.pick, label))
 }
 
+#[tactic(auto, unfolding(analyze::specs::Load::unlabelled_load, analyze::specs::Load::is_followed, word::specs::Kept::kept_of))]
 fn unlabelled_load(step: Step, word: U256) -> Plan
     ensures { result ≡ unlabelled_load step (value_of word) }
 {
-    let kept = keep(word);
-    let Kept::Number(offset) = kept else {
+    let Some(offset) = keep(word) else {
         return nothing();
     };
     if offset < SELECTOR_BYTES {
@@ -124,6 +127,7 @@ fn unlabelled_load(step: Step, word: U256) -> Plan
     found(step, offset - SELECTOR_BYTES)
 }
 
+#[tactic(auto, unfolding(analyze::specs::Load::load))]
 pub fn load(table: &[u32], n: u32, used: u32, step: Step) -> Plan
     requires { Ready table.now used n × StepReaches used step }
     ensures { result ≡ load (nodes table.now used) step }

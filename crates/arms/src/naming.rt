@@ -7,17 +7,18 @@ ghost use Rattle.analyze.specs.Name.{eq_masked, eq_both, eq, zero_tested, is_zer
 
 use crate::plans::{and_stack, mark_and_name, nothing, one_operation};
 use analyze::{OnStack, Plan};
-use code::{Place, guard_failure_pc, is_division_check};
+use code::{guard_failure_pc, is_division_check};
 use labels::{Choice, Label, Mask, Pattern, Step, Val, choose, is_unmasked, same_arg};
 use limits::codes::{ADDRESS, BOOL, FIXED_BYTES, INT, NO_NAME, UINT};
 use limits::confidences::{BY_AND_OR_ISZERO, BY_BYTE, BY_MSTORE8, BY_SDIV_OR_SMOD, BY_THE_REST};
 use limits::{ADDRESS_BITS, WORD_BYTES};
 use mask::and_mask_to_type;
 use operations::Operation;
+use word::U256;
 use word::sum::keep;
-use word::{Kept, U256};
 
 // CALL, CALLCODE, DELEGATECALL, STATICCALL: the first operand is an address.
+#[tactic(auto, unfolding(analyze::specs::Name::call))]
 pub fn call(step: Step) -> Plan
     ensures { result ≡ call step }
 {
@@ -30,6 +31,7 @@ pub fn call(step: Step) -> Plan
 }
 
 // MSTORE8: the first operand is a byte.
+#[tactic(auto, unfolding(analyze::specs::Name::mstore8))]
 pub fn mstore8(step: Step) -> Plan
     ensures { result ≡ mstore8 step }
 {
@@ -42,29 +44,16 @@ pub fn mstore8(step: Step) -> Plan
 }
 
 // The name that a guarded SHR by a width gives, NO_NAME for none.
+#[tactic(auto, unfolding(analyze::specs::Name::width_name, word::specs::Kept::kept_of))]
 fn width_name(width: U256) -> u32
     ensures { result ≡ width_name (value_of width) }
 {
-    let kept = keep(width);
-    let Kept::Number(w) = kept else {
-        return NO_NAME;
-    };
-    if w == 1 {
-        return BOOL;
+    match keep(width) {
+        Some(1) => BOOL,
+        Some(ADDRESS_BITS) => ADDRESS,
+        Some(w) if w % 8 == 0 && 1 <= w && w <= 255 => UINT + w,
+        _ => NO_NAME,
     }
-    if w == ADDRESS_BITS {
-        return ADDRESS;
-    }
-    if w < 1 {
-        return NO_NAME;
-    }
-    if 255 < w {
-        return NO_NAME;
-    }
-    if w % 8 != 0 {
-        return NO_NAME;
-    }
-    UINT + w
 }
 
 // A name, if it is one.
@@ -78,6 +67,7 @@ fn name_if(val: Val, name: u32, confidence: u32) -> Plan
 }
 
 // SHR before a guard: Vyper validates narrow scalars by rejecting non-zero high bits.
+#[tactic(auto, unfolding(analyze::specs::Name::shr))]
 pub fn shr(active: bool, code: &[u8], step: Step) -> Plan
     ensures { result ≡ shr active code.now step }
 {
@@ -89,15 +79,15 @@ pub fn shr(active: bool, code: &[u8], step: Step) -> Plan
     if !active {
         return nothing();
     }
-    let place = guard_failure_pc(code, step.pc, true);
-    let Place::At(_) = place else {
+    if guard_failure_pc(code, step.pc, true).is_none() {
         return nothing();
-    };
+    }
     let first = step.first;
     name_if(val, width_name(first.word), BY_THE_REST)
 }
 
 // SDIV and SMOD: the first operand that is an argument is signed.
+#[tactic(auto, unfolding(analyze::specs::Name::signed))]
 pub fn signed(step: Step) -> Plan
     ensures { result ≡ signed step }
 {
@@ -115,10 +105,8 @@ fn with_mask(val: Val, mask: U256) -> Label
     ensures { result ≡ with_mask val mask }
 {
     Label::Arg(Val {
-        offset: val.offset,
-        path: val.path,
-        add_val: val.add_val,
         and_mask: Mask::Masked(mask),
+        ..val
     })
 }
 
@@ -136,6 +124,7 @@ fn masked(val: Val, mask: U256, name: u32) -> Plan
     )
 }
 
+#[tactic(auto, unfolding(analyze::specs::Name::and))]
 pub fn and(step: Step) -> Plan
     ensures { result ≡ and step }
 {
@@ -150,6 +139,7 @@ pub fn and(step: Step) -> Plan
 }
 
 // EQ of v and of w, which is v masked.
+#[tactic(auto, unfolding(analyze::specs::Name::eq_masked))]
 fn eq_masked(v: Val, w: Val, mask: Mask) -> Plan
     ensures { result ≡ eq_masked v w mask }
 {
@@ -163,6 +153,7 @@ fn eq_masked(v: Val, w: Val, mask: Mask) -> Plan
 }
 
 // The masked one may stand first or second.
+#[tactic(auto, unfolding(analyze::specs::Name::eq_both))]
 fn eq_both(v: Val, w: Val) -> Plan
     ensures { result ≡ eq_both v w }
 {
@@ -178,6 +169,7 @@ fn eq_both(v: Val, w: Val) -> Plan
 }
 
 // EQ of an argument and the same one masked: the mask's type.
+#[tactic(auto, unfolding(analyze::specs::Name::eq))]
 pub fn eq(step: Step) -> Plan
     ensures { result ≡ eq step }
 {
@@ -206,6 +198,7 @@ fn label_top(label: Label) -> Plan
 }
 
 // A double ISZERO is a bool's check, unless it is the one before a division.
+#[tactic(auto, unfolding(analyze::specs::Name::is_zero))]
 pub fn is_zero(code: &[u8], step: Step) -> Plan
     ensures { result ≡ is_zero code.now step }
 {
@@ -220,12 +213,12 @@ pub fn is_zero(code: &[u8], step: Step) -> Plan
                 one_operation(Operation::SetTname(val.path, val.offset, BOOL, BY_AND_OR_ISZERO))
             }
         }
-        Label::Unlabelled => nothing(),
-        Label::CallData => nothing(),
+        Label::Unlabelled | Label::CallData => nothing(),
     }
 }
 
 // SIGNEXTEND: int of one byte more than the first operand says.
+#[tactic(auto, unfolding(analyze::specs::Name::sign_extend, word::specs::Kept::kept_of))]
 pub fn sign_extend(step: Step) -> Plan
     ensures { result ≡ sign_extend step }
 {
@@ -235,8 +228,7 @@ pub fn sign_extend(step: Step) -> Plan
         return nothing();
     };
     let first = step.first;
-    let kept = keep(first.word);
-    let Kept::Number(k) = kept else {
+    let Some(k) = keep(first.word) else {
         return nothing();
     };
     if WORD_BYTES <= k {
@@ -246,6 +238,7 @@ pub fn sign_extend(step: Step) -> Plan
 }
 
 // BYTE: fixed bytes of a whole word.
+#[tactic(auto, unfolding(analyze::specs::Name::byte))]
 pub fn byte(step: Step) -> Plan
     ensures { result ≡ byte step }
 {
@@ -258,6 +251,7 @@ pub fn byte(step: Step) -> Plan
 }
 
 // MLOAD of a word that is an argument.
+#[tactic(auto, unfolding(analyze::specs::Name::mload))]
 pub fn mload(step: Step) -> Plan
     ensures { result ≡ mload step }
 {

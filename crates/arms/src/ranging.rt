@@ -17,14 +17,11 @@ use word::range::is_range_bound;
 fn is_unlabelled(label: Label) -> bool
     ensures { result ≡ is_unlabelled label }
 {
-    if let Label::Unlabelled = label {
-        true
-    } else {
-        false
-    }
+    matches!(label, Label::Unlabelled)
 }
 
 // Orients a strict comparison of an argument with a plain word as value < bound or value > bound.
+#[tactic(auto, unfolding(analyze::specs::Phases::comparison_of))]
 fn comparison(step: Step) -> Comparison
     ensures { result ≡ comparison_of step }
 {
@@ -51,6 +48,7 @@ fn comparison(step: Step) -> Comparison
 
 // Does the comparison name a range? Slot zero of a dynamic path may be its length: bounds on that describe the
 // container, not a scalar argument.
+#[tactic(auto, unfolding(analyze::specs::Phases::names_range))]
 fn names_range(code: &[u8], pc: u32, val: Val, bound: U256, less_than: bool) -> bool
     ensures { result ≡ names_range code.now pc val bound less_than }
 {
@@ -71,6 +69,7 @@ fn names_range(code: &[u8], pc: u32, val: Val, bound: U256, less_than: bool) -> 
 }
 
 // Does the range rule apply?
+#[tactic(auto, unfolding(analyze::specs::Phases::range_rule))]
 pub fn range_rule(active: bool, code: &[u8], step: Step) -> bool
     ensures { result ≡ range_rule active code.now step }
 {
@@ -89,6 +88,7 @@ pub fn range_rule(active: bool, code: &[u8], step: Step) -> bool
 
 // What it does: Solidity validates enums this way, including two-member ones, and validates bools differently, so a
 // bound of 1 is uint8 as well. The mark is set directly: `mark_not_bool` would drop the new name.
+#[tactic(auto, unfolding(analyze::specs::Phases::range_plan))]
 pub fn range_plan(step: Step) -> Plan
     ensures { result ≡ range_plan step }
 {

@@ -12,45 +12,40 @@ use analyze::{OnStack, Plan};
 use labels::{Choice, Label, Pattern, Step, Val, choose, is_length};
 use operations::Operation;
 use paths::depth_of;
+use word::U256;
 use word::compare::{is_max, is_zero};
 use word::sum::add_kept;
-use word::{Kept, U256};
 
 // The label with another constant added.
 fn with_added(val: Val, added: u32) -> Label
     ensures { result ≡ with_added val added }
 {
-    let and_mask = val.and_mask;
     Label::Arg(Val {
-        offset: val.offset,
-        path: val.path,
         add_val: added,
-        and_mask,
+        ..val
     })
 }
 
 // The top labelled with a sum that was kept.
-fn kept_label(val: Val, sum: Kept) -> OnStack
+fn kept_label(val: Val, sum: Option<u32>) -> OnStack
     ensures { result ≡ kept_label val sum }
 {
-    let Kept::Number(added) = sum else {
-        return OnStack::Keep;
-    };
-    OnStack::Label(with_added(val, added))
+    match sum {
+        Some(added) => OnStack::Label(with_added(val, added)),
+        None => OnStack::Keep,
+    }
 }
 
 // The sum of two constants, if it is below 2^32.
-fn add_values(a: u32, b: u32) -> Kept
+#[tactic(auto, unfolding(word::specs::Kept::kept_of))]
+fn add_values(a: u32, b: u32) -> Option<u32>
     ensures { result ≡ kept_of (a + b) }
 {
-    let sum = a as u64 + b as u64;
-    if sum < 0x1_0000_0000 {
-        return Kept::Number(sum as u32);
-    }
-    Kept::TooLarge
+    a.checked_add(b)
 }
 
 // The label with the longer path; at equal length the second.
+#[tactic(auto, unfolding(analyze::specs::Sum::winner))]
 fn longer(table: &[u32], n: u32, used: u32, f: Val, g: Val) -> Val
     requires { Ready table.now used n × IsUsed used f.path × IsUsed used g.path }
     ensures { result ≡ winner (nodes table.now used) f g }
@@ -62,6 +57,7 @@ fn longer(table: &[u32], n: u32, used: u32, f: Val, g: Val) -> Val
 }
 
 // Both operands are arguments.
+#[tactic(auto, unfolding(analyze::specs::Sum::add_both))]
 fn add_both(table: &[u32], n: u32, used: u32, f: Val, g: Val) -> Plan
     requires { Ready table.now used n × IsUsed used f.path × IsUsed used g.path }
     ensures { result ≡ add_both (nodes table.now used) f g }
@@ -75,6 +71,7 @@ fn add_both(table: &[u32], n: u32, used: u32, f: Val, g: Val) -> Plan
 }
 
 // Is it sub(-1), written as add(0xff..ff), of a length that is zero?
+#[tactic(auto, unfolding(analyze::specs::Sum::is_less_one))]
 fn is_less_one(val: Val, own: U256, other: U256) -> bool
     ensures { result ≡ is_less_one val own other }
 {
@@ -82,16 +79,17 @@ fn is_less_one(val: Val, own: U256, other: U256) -> bool
 }
 
 // The word 0, beside the label of a sum that was kept.
-fn zero_beside(val: Val, sum: Kept) -> OnStack
+fn zero_beside(val: Val, sum: Option<u32>) -> OnStack
     ensures { result ≡ zero_beside val sum }
 {
-    let Kept::Number(added) = sum else {
-        return OnStack::Word(0);
-    };
-    OnStack::WordLabel(0, with_added(val, added))
+    match sum {
+        Some(added) => OnStack::WordLabel(0, with_added(val, added)),
+        None => OnStack::Word(0),
+    }
 }
 
 // The top after a constant is added.
+#[tactic(auto, unfolding(analyze::specs::Sum::add_constant))]
 fn add_constant(val: Val, own: U256, other: U256) -> OnStack
     ensures { result ≡ add_constant val own other }
 {
@@ -116,6 +114,7 @@ fn add_one(choice: Choice) -> Plan
     )
 }
 
+#[tactic(auto, unfolding(analyze::specs::Sum::add))]
 pub fn add(table: &[u32], n: u32, used: u32, step: Step) -> Plan
     requires { Ready table.now used n × StepReaches used step }
     ensures { result ≡ add (nodes table.now used) step }

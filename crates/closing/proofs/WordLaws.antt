@@ -1,5 +1,6 @@
 -- The words that a closing fills, line by line of the code.
-use Prim.Native.Nat.{ℕ, zero, suc, ◌-◌, ◌≤◌, ◌<◌}
+use Rattle.std.proofs.Common.{Some, None}
+use Prim.Native.Nat.{ℕ, zero, suc, ◌-◌, ◌≤◌}
 use mathlib.Core.Path.{◌≡◌, refl, sym, ap, ◌∙◌}
 use mathlib.Core.Bool.{Bool, true, false, cond, not, ◌&&◌}
 use mathlib.Core.Logic.{inl, inr, ⊎_elim}
@@ -7,14 +8,7 @@ use mathlib.Core.List.{List, [], ◌∷◌}
 use native.Mathlib.Omega.{arith}
 use lib.Dec.{eqb}
 use lib.ListN.{length}
-use borrow.Author.Tests.{le-leb, lt-leb}
-use Rattle.limits.specs.Limits.{kind_array, argument_words_max}
-use Rattle.word.specs.Value.{value_of}
-use Rattle.word.specs.declared.U256.{U256}
-use Rattle.code.specs.declared.Words.{Words}
-use Rattle.code.specs.declared.Words.TheVariants.{Count, Nothing}
-use Rattle.code.specs.Length.{direct_min_calldata_words}
-use Rattle.code.specs.Dense.{dense_min_calldata_words}
+use Rattle.limits.specs.Limits.{kind_array}
 use Rattle.facts.specs.Table.{child_of, next_of, kind_of}
 use Rattle.facts.specs.Links.{In}
 use Rattle.facts.specs.State.{Node, nodes, node_of, kids_in}
@@ -25,30 +19,10 @@ use Rattle.paths.specs.Shape.{Shaped}
 use Rattle.paths.proofs.Tail.{Tail, More, tail_more, tail_none, tail_start}
 use Rattle.kinds.specs.Kinds.{dynamic_below, has_dynamic}
 use Rattle.list.specs.Seen.{seen_ones, children_in, is_empty}
-use Rattle.closing.specs.declared.Packed.{Packed}
-use Rattle.closing.specs.declared.Packed.TheVariants.{Word}
 use Rattle.closing.specs.declared.Dynamics.{Dynamics}
-use Rattle.closing.specs.Words.{Handed, packed_words, override, min_words, dynamic_ones, dynamic_args, one_less}
-use Rattle.closing.specs.Words.{head_by, head_words, fill_count, fill_words}
+use Rattle.closing.specs.Words.{dynamic_ones, dynamic_args, one_less}
+use Rattle.closing.specs.Words.{head_by, fill_count}
 use Rattle.closing.specs.Dynamics.{dynamics, summary, resume}
-
-pub limit_some : (w : ℕ) → w ≤ argument_words_max → (w ≡ fill_count (Count w)) × (w ≤ argument_words_max)
-limit_some w h = (rw (le-leb w argument_words_max h) refl, h)
-
-pub limit_none : (w : ℕ) → argument_words_max < w → (0 ≡ fill_count (Count w)) × (0 ≤ argument_words_max)
-limit_none w h = (rw (lt-leb w argument_words_max h) refl, omega arith)
-
--- the packed reading, and which of the two counts
-pub packed_read : (code : List ℕ) (start : ℕ) (packed : Packed) (w : U256) (r : Words) → packed ≡ Word w → r ≡ dense_min_calldata_words code start (value_of w)
-    → r ≡ packed_words code start packed
-packed_read code start packed w r e q = q ∙ sym (ap (packed_words code start) e)
-
-module _ (h : Handed) (p : Words) (e : p ≡ packed_words h.code h.start h.packed) where
-  pub min_direct : (r : Words) → p ≡ Nothing → r ≡ direct_min_calldata_words h.code h.start → r ≡ min_words h
-  min_direct r z q = q ∙ sym (ap (override (direct_min_calldata_words h.code h.start)) (sym e ∙ z))
-
-  pub min_packed : (w : ℕ) → p ≡ Count w → Count w ≡ min_words h
-  min_packed w z = sym (ap (override (direct_min_calldata_words h.code h.start)) (sym e ∙ z))
 
 -- an unseen record is no dynamic argument
 plain_below : (n : ℕ) (s : List Node) (r : ℕ) → eqb (node_of s r).seen 1 ≡ false → dynamic_below n s r ≡ false
@@ -167,7 +141,7 @@ module _ (s : List Node) (w : ℕ) (d : Dynamics) where
   one_met (r ∷ []) e z = ap (λ (x : Dynamics). x.first ∷ []) (sym e)
   one_met (r ∷ q ∷ rs) e z = absurd (let y = ap (λ (x : Dynamics). x.count) e in omega arith)
 
-  pub head_all : (v : ℕ) → d ≡ summary (dynamic_args s) → d.count ≡ 0 → v ≡ fill_count (Count w) → v ≡ fill_count (head_by s w (dynamic_args s))
+  pub head_all : (v : ℕ) → d ≡ summary (dynamic_args s) → d.count ≡ 0 → v ≡ fill_count (Some w) → v ≡ fill_count (head_by s w (dynamic_args s))
   head_all v e z q = q ∙ ap (λ (l : List ℕ). fill_count (head_by s w l)) (sym (none_met (dynamic_args s) e z))
 
   many_met : (l : List ℕ) → d ≡ summary l → (d.count ≡ 0 → ⊥) → (d.count ≡ 1 → ⊥) → 0 ≡ fill_count (head_by s w l)
@@ -180,21 +154,21 @@ module _ (s : List Node) (w : ℕ) (d : Dynamics) where
 
   module _ (e : d ≡ summary (dynamic_args s)) (o : d.count ≡ 1) (b : Bool)
       (q : b ≡ (eqb (node_of s d.first).kind kind_array && is_empty (children_in s d.first))) where
-    alone : fill_count (head_by s w (dynamic_args s)) ≡ fill_count (cond b (one_less w) Nothing)
-    alone = ap (λ (l : List ℕ). fill_count (head_by s w l)) (one_met (dynamic_args s) e o) ∙ ap (λ (x : Bool). fill_count (cond x (one_less w) Nothing)) (sym q)
+    alone : fill_count (head_by s w (dynamic_args s)) ≡ fill_count (cond b (one_less w) None)
+    alone = ap (λ (l : List ℕ). fill_count (head_by s w l)) (one_met (dynamic_args s) e o) ∙ ap (λ (x : Bool). fill_count (cond x (one_less w) None)) (sym q)
 
     pub head_other : not b ≡ true → 0 ≡ fill_count (head_by s w (dynamic_args s))
     head_other h = sym (rw (was_false b h) at alone)
 
     pub head_none : not b ≡ false → w ≡ 0 → 0 ≡ fill_count (head_by s w (dynamic_args s))
-    head_none h z = sym (alone ∙ (λ i. fill_count (cond (was_true b h i) (one_less (z i)) Nothing)))
+    head_none h z = sym (alone ∙ (λ i. fill_count (cond (was_true b h i) (one_less (z i)) None)))
 
-    pub head_less : (v : ℕ) → not b ≡ false → (w ≡ 0 → ⊥) → v ≡ fill_count (Count (w - 1)) → v ≡ fill_count (head_by s w (dynamic_args s))
-    head_less v h n f = f ∙ ap fill_count (less w n) ∙ sym (alone ∙ ap (λ (x : Bool). fill_count (cond x (one_less w) Nothing)) (was_true b h))
+    pub head_less : (v : ℕ) → not b ≡ false → (w ≡ 0 → ⊥) → v ≡ fill_count (Some (w - 1)) → v ≡ fill_count (head_by s w (dynamic_args s))
+    head_less v h n f = f ∙ ap fill_count (less w n) ∙ sym (alone ∙ ap (λ (x : Bool). fill_count (cond x (one_less w) None)) (was_true b h))
       where
-        less : (x : ℕ) → (x ≡ 0 → ⊥) → Count (x - 1) ≡ one_less x
+        less : (x : ℕ) → (x ≡ 0 → ⊥) → Some (x - 1) ≡ one_less x
         less zero z = absurd (z refl)
-        less (suc x) z = ap Count (omega arith)
+        less (suc x) z = ap Some (omega arith)
 
 in_dynamic : (s : List Node) (x : ℕ) (ms : List ℕ) → In x (dynamic_ones s ms) → In x ms
 unfolding dynamic_ones
@@ -212,12 +186,3 @@ met_used t u d e o =
     let K = kids_in_lem t 1 u d.first (rw (kids_nodes t u 1) at (in_dynamic (nodes t u) d.first (kids_in (nodes t u) 1) i)) in
     let a = K.above in
     (omega arith, K.used)
-
-module _ (s : List Node) (h : Handed) (m : Words) (e : m ≡ min_words h) where
-  pub fill_none : m ≡ Nothing → (0 ≡ fill_words s h) × (0 ≤ argument_words_max)
-  unfolding fill_words
-  fill_none z = (sym (ap (λ (x : Words). fill_count (head_words s x)) (sym e ∙ z)), omega arith)
-
-  pub fill_some : (w v : ℕ) → m ≡ Count w → (v ≡ fill_count (head_by s w (dynamic_args s))) × (v ≤ argument_words_max) → (v ≡ fill_words s h) × (v ≤ argument_words_max)
-  unfolding fill_words
-  fill_some w v z q = (q.0 ∙ sym (ap (λ (x : Words). fill_count (head_words s x)) (sym e ∙ z)), q.1)

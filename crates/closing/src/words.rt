@@ -6,10 +6,9 @@ ghost use Rattle.paths.specs.Shape.{Shaped};
 ghost use Rattle.list.specs.Seen.{children_in, is_empty};
 ghost use Rattle.closing.specs.Words.{hand, packed_words, min_words, dynamic_args, head_by, fill_count, fill_words};
 ghost use Rattle.closing.specs.Dynamics.{summary};
-ghost use Rattle.code.specs.declared.Words.TheVariants.{Count};
 
 use crate::{Dynamics, Packed};
-use code::{Words, dense_min_calldata_words, direct_min_calldata_words};
+use code::{dense_min_calldata_words, direct_min_calldata_words};
 use facts::field;
 use kinds::has_dynamic;
 use limits::fields::{CHILD, KIND, NEXT};
@@ -17,23 +16,20 @@ use limits::{ARGUMENT_WORDS_MAX, KIND_ARRAY};
 use list::is_childless;
 
 // What the packed word says, if there is one.
-fn packed_words(code: &[u8], start: u32, packed: Packed) -> Words
+fn packed_words(code: &[u8], start: u32, packed: Packed) -> Option<u32>
     ensures { result ≡ packed_words code.now start packed }
 {
     let Packed::Word(word) = packed else {
-        return Words::Nothing;
+        return None;
     };
     dense_min_calldata_words(code, start, word)
 }
 
 // The least length of the call data in words: the packed reading overrides the direct one.
-fn min_words(code: &[u8], start: u32, packed: Packed) -> Words
+fn min_words(code: &[u8], start: u32, packed: Packed) -> Option<u32>
     ensures { result ≡ min_words (hand code.now start packed) }
 {
-    let Words::Count(words) = packed_words(code, start, packed) else {
-        return direct_min_calldata_words(code, start);
-    };
-    Words::Count(words)
+    packed_words(code, start, packed).or_else(|| direct_min_calldata_words(code, start))
 }
 
 // The root's dynamic children; the walk ends with the second.
@@ -71,7 +67,7 @@ fn is_bare_array(table: &[u32], n: u32, used: u32, r: u32) -> bool
 
 // No more than the Rust fills.
 fn limited(words: u32) -> u32
-    ensures { (result ≡ fill_count (Count words)) × (result ≤ argument_words_max) }
+    ensures { (result ≡ fill_count (Some words)) × (result ≤ argument_words_max) }
 {
     if words <= ARGUMENT_WORDS_MAX {
         words
@@ -103,12 +99,13 @@ fn head_words(table: &[u32], n: u32, used: u32, words: u32) -> u32
 }
 
 // How many words of the head the closing fills.
+#[tactic(auto, unfolding(crate::specs::Words::fill_words))]
 pub fn fill_words(table: &[u32], n: u32, used: u32, code: &[u8], start: u32, packed: Packed) -> u32
     requires { Shaped table.now used n }
     ensures { (result ≡ fill_words (nodes table.now used) (hand code.now start packed))
         × (result ≤ argument_words_max) }
 {
-    let Words::Count(words) = min_words(code, start, packed) else {
+    let Some(words) = min_words(code, start, packed) else {
         return 0;
     };
     head_words(table, n, used, words)

@@ -1,9 +1,5 @@
 mod Places
 mod Digits
-mod Prefix
-mod Choice
-mod Jumps
-mod Guards
-mod Reverts
 mod Lengths
 mod Denses
+mod Reverts

@@ -1,66 +1,45 @@
--- Laws of the byte at a place: inside the code, past its end, and what a byte that stands there says of the place.
-use mathlib.Core.Path.{◌≡◌, refl, sym, ap, ◌∙◌}
-use mathlib.Core.Bool.{Bool, true, false, cond, not}
-use mathlib.Core.List.{List, [], ◌∷◌}
-use mathlib.Core.Option.{Option, none, some}
-use Prim.Native.Nat.{ℕ, zero, suc, ◌+◌, ◌≤◌, ◌<◌}
-use native.Mathlib.Nat.{add-zero, not-suc-le-zero, le_of_suc-le-suc}
-use native.Mathlib.Decide.{dec_lt}
-use native.Mathlib.Omega.{arith}
+-- Laws of the byte at a place: what is read there, and what a byte that stands there says of the place.
 use borrow.Author.Tests.{not-false}
-use lib.Dec.{eqb}
-use lib.ListN.{length, get_or, get_elem?}
+use Rattle.std.proofs.Common.{not, arith, ◌≡◌, ℕ, ◌<◌, ◌≤◌, Bool, true, false, List, length, Option, Some, None, Bor, slice_get, option_copied, eqb, sym, refl, ap, ◌∙◌, ltb-true, ltb-false}
+use Rattle.std.specs.Option.{option_eq, option_and_then}
 use Rattle.opcode.specs.Lists.{push_size}
-use Rattle.code.specs.Bytes.{holds_byte, pushed, is_at, past_byte, push_size_at}
+use Rattle.std.specs.Slice.{IsItemAt}
+use Rattle.std.proofs.lemmas.Option.{slice_get_past, slice_get_read, slice_get_within}
+use Rattle.code.specs.Bytes.{holds_byte, is_at, push_size_at}
 
-at_in : (code : List ℕ) (i : ℕ) → i < length code → get_elem? code i ≡ some (get_or code i 0)
-at_in [] i h = absurd (not-suc-le-zero h)
-at_in (x ∷ code) zero h = refl
-at_in (x ∷ code) (suc i) h = at_in code i (le_of_suc-le-suc h)
+-- what `get` lends is the element at the place
+pub item_copied : (xs : List ℕ) (i : ℕ) (r : Option (Bor ℕ)) → IsItemAt xs i r → option_copied r ≡ slice_get xs i
+item_copied xs i None h = sym (slice_get_past xs i (ltb-false i (length xs) (sym h.0)))
+item_copied xs i (Some x) h = sym (slice_get_read xs (length xs) i x.now refl (ltb-true i (length xs) (sym h.0)) h.1)
 
-at_past : (code : List ℕ) (i : ℕ) → length code ≤ i → get_elem? code i ≡ none
-at_past [] i h = refl
-at_past (x ∷ code) zero h = absurd (not-suc-le-zero h)
-at_past (x ∷ code) (suc i) h = at_past code i (le_of_suc-le-suc h)
+-- comparing it with b asks whether b stands there
+pub byte_law : (code : List ℕ) (at b : ℕ) (o : Option ℕ) → o ≡ slice_get code at → option_eq eqb o (Some b) ≡ is_at code at b
+unfolding is_at
+byte_law code at b o e = asks o ∙ ap (λ (p : Option ℕ). holds_byte p b) e
+  where
+    asks : (p : Option ℕ) → option_eq eqb p (Some b) ≡ holds_byte p b
+    asks None = refl
+    asks (Some x) = refl
 
-module _ (code : List ℕ) (i : ℕ) where
-  pub is_in : (b : ℕ) → i < length code → eqb (get_or code i 0) b ≡ is_at code i b
-  unfolding is_at
-  is_in b h = ap (λ (o : Option ℕ). holds_byte o b) (sym (at_in code i h))
-
-  pub is_past : (b : ℕ) → length code ≤ i → false ≡ is_at code i b
-  unfolding is_at
-  is_past b h = ap (λ (o : Option ℕ). holds_byte o b) (sym (at_past code i h))
-
-  pub push_in : (r : ℕ) → r ≡ push_size (get_or code i 0) → i < length code → r ≡ push_size_at code i
+-- what is pushed there, where a byte is lent and where none is
+module _ (code : List ℕ) (at : ℕ) (r : Option (Bor ℕ)) (lent : IsItemAt code at r) where
+  pub push_some : (x : Bor ℕ) → r ≡ Some x → (o : Option ℕ) → o ≡ push_size x.now → o ≡ push_size_at code at
   unfolding push_size_at
-  push_in r e h = e ∙ ap pushed (sym (at_in code i h))
+  push_some x e o f = f ∙ ap (λ (s : Option (Bor ℕ)). option_and_then push_size (option_copied s)) (sym e) ∙ ap (option_and_then push_size) (item_copied code at r lent)
 
-  pub push_past : length code ≤ i → 0 ≡ push_size_at code i
+  pub push_none : r ≡ None → None ≡ push_size_at code at
   unfolding push_size_at
-  push_past h = ap pushed (sym (at_past code i h))
+  push_none e = ap (λ (s : Option (Bor ℕ)). option_and_then push_size (option_copied s)) (sym e) ∙ ap (option_and_then push_size) (item_copied code at r lent)
 
 -- a byte stands only inside the code
-pub inside : (code : List ℕ) (i b : ℕ) → true ≡ is_at code i b → i < length code
-inside code i b e = go (dec_lt i (length code))
+pub inside : (code : List ℕ) (i b : ℕ) → is_at code i b ≡ true → i < length code
+unfolding is_at
+inside code i b e = go (slice_get code i) refl e
   where
-    go : Dec (i < length code) → i < length code
-    go (yes h) = h
-    go (no h) =
-        let past : length code ≤ i = omega arith in
-        let q : true ≡ false = e ∙ sym (is_past code i b past) in
-        let z : ◌≡◌ {A = ℕ} 0 1 = cc in
-        absurd (omega arith)
+    go : (o : Option ℕ) → slice_get code i ≡ o → holds_byte o b ≡ true → i < length code
+    go None f t = cc
+    go (Some x) f t = slice_get_within code i x f
 
--- the place after one byte b, whether it stands there or not
-module _ (code : List ℕ) (i b : ℕ) (t : Bool) (et : t ≡ is_at code i b) where
-  pub past_yes : t ≡ true → i + 1 ≡ past_byte code i b
-  unfolding past_byte
-  past_yes e = ap (λ (s : Bool). i + cond s 1 0) (sym e ∙ et)
-
-  pub past_no : t ≡ false → i ≡ past_byte code i b
-  unfolding past_byte
-  past_no e = sym (add-zero i) ∙ ap (λ (s : Bool). i + cond s 1 0) (sym e ∙ et)
-
-  pub stands_inside : not t ≡ false → i < length code
-  stands_inside e = inside code i b (sym (not-false t e) ∙ et)
+-- the same where the code asks whether it stands there
+pub stands_inside : (code : List ℕ) (i b : ℕ) (t : Bool) → t ≡ is_at code i b → not t ≡ false → i ≤ length code
+stands_inside code i b t et e = let h = inside code i b (sym et ∙ not-false t e) in omega arith

@@ -1,30 +1,40 @@
--- The six byte strings, after one JUMPDEST.
-use mathlib.Core.Path.{◌≡◌, refl, ap, ◌∙◌}
-use mathlib.Core.Bool.{Bool, false, ◌||◌, or_assoc, or-false}
-use mathlib.Core.List.{List, [], ◌∷◌}
-use Prim.Native.Nat.{ℕ, ◌-◌}
-use native.Mathlib.Omega.{arith}
-use borrow.Author.Tests.{eq-eqb, ne_eqb}
-use lib.ListN.{length, get_or, take, drop, length-drop}
+-- The byte strings of an empty revert, after one JUMPDEST, from a place on.
+use Rattle.std.proofs.Common.{Some, nat_eq, ◌≡◌, ℕ, ◌-◌, ◌<◌, ◌≤◌, Bool, false, ◌&&◌, ◌||◌, List, [], ◌∷◌, length, take, drop, eqb, get_or, sym, refl, ap, ◌∙◌, arith, inl, inr, ◌⊎◌, length-drop, eq-eqb, ne_eqb}
+use Rattle.std.proofs.Math.ListN.{drop_of_length-le}
 use lib.Seq.{take_all}
+use Rattle.std.specs.List.{list_any, starts_with}
 use Rattle.opcode.specs.Opcode.{JUMPDEST}
 use Rattle.code.specs.Revert.{begins, begins_any, begins_empty_revert, empty_reverts, after_jumpdest, is_empty_revert}
+use Rattle.code.specs.Guard.{revert_at}
 
-pub six : (part : List ℕ) (a b c d e f : Bool) →
-    a ≡ begins (0x5f ∷ 0x5f ∷ 0xfd ∷ []) part → b ≡ begins (0x5f ∷ 0x80 ∷ 0xfd ∷ []) part → c ≡ begins (0x5f ∷ 0x60 ∷ 0x00 ∷ 0xfd ∷ []) part →
-    d ≡ begins (0x60 ∷ 0x00 ∷ 0x5f ∷ 0xfd ∷ []) part → e ≡ begins (0x60 ∷ 0x00 ∷ 0x80 ∷ 0xfd ∷ []) part → f ≡ begins (0x60 ∷ 0x00 ∷ 0x60 ∷ 0x00 ∷ 0xfd ∷ []) part →
-    (a || b || c || d || e || f) ≡ begins_empty_revert part
-unfolding begins_any empty_reverts
-six part a b c d e f ea eb ec ed ee ef = simp (or_assoc, or-false, ← ea, ← eb, ← ec, ← ed, ← ee, ← ef)
+-- a byte string begins a part as the library's `starts_with` says
+starts_begins : (s part : List ℕ) → starts_with nat_eq part s ≡ begins s part
+unfolding begins
+starts_begins [] part = refl
+starts_begins (x ∷ s) [] = refl
+starts_begins (x ∷ s) (y ∷ part) = ap (λ (t : Bool). eqb x y && t) (starts_begins s part)
 
-pub empty_part : (part : List ℕ) → length part ≡ 0 → false ≡ is_empty_revert part
-unfolding is_empty_revert after_jumpdest begins_any empty_reverts begins
-empty_part [] e = refl
-empty_part (x ∷ part) e = absurd (omega arith)
+pub any_begins : (ss : List (List ℕ)) (part : List ℕ) → list_any (λ s. starts_with nat_eq part s) ss ≡ begins_any ss part
+unfolding begins_any
+any_begins [] part = refl
+any_begins (s ∷ ss) part = λ i. starts_begins s part i || any_begins ss part i
 
-after_is : (part : List ℕ) → (length part ≡ 0 → ⊥) → get_or part 0 0 ≡ JUMPDEST → drop 1 part ≡ after_jumpdest part
+-- the part of a slice from a place on, as the code lends it
+from_place : (l : List ℕ) (a : ℕ) → take (length l - a) (drop a l) ≡ drop a l
+from_place l a = take_all (length l - a) (drop a l) (simp length-drop (omega arith))
+
+module _ (code : List ℕ) (at : ℕ) where
+  pub revert_part : (r : Bool) → r ≡ is_empty_revert (take (length code - at) (drop at code)) → r ≡ revert_at code (Some at)
+  revert_part r e = e ∙ ap is_empty_revert (from_place code at)
+
+  pub revert_past : (length code < at) ⊎ (length code < length code) → false ≡ revert_at code (Some at)
+  unfolding is_empty_revert after_jumpdest begins_any empty_reverts begins
+  revert_past (inl h) = ap is_empty_revert (sym (drop_of_length-le code (omega arith)))
+  revert_past (inr h) = absurd (omega arith)
+
+after_is : (part : List ℕ) → 1 ≤ length part → get_or part 0 0 ≡ JUMPDEST → drop 1 part ≡ after_jumpdest part
 unfolding after_jumpdest
-after_is [] n e = absurd (n refl)
+after_is [] n e = absurd (omega arith)
 after_is (x ∷ part) n e = simp (eq-eqb x JUMPDEST e)
 
 after_not : (part : List ℕ) → (get_or part 0 0 ≡ JUMPDEST → ⊥) → part ≡ after_jumpdest part
@@ -32,15 +42,18 @@ unfolding after_jumpdest
 after_not [] n = refl
 after_not (x ∷ part) n = simp (ne_eqb x JUMPDEST n)
 
--- the part of a slice from a place on, as the code lends it
-pub from_place : (l : List ℕ) (a : ℕ) → take (length l - a) (drop a l) ≡ drop a l
-from_place l a = take_all (length l - a) (drop a l) (simp length-drop (omega arith))
-
 module _ (part : List ℕ) (r : Bool) where
-  pub past_jumpdest : (length part ≡ 0 → ⊥) → get_or part 0 0 ≡ JUMPDEST → r ≡ begins_empty_revert (take (length part - 1) (drop 1 part)) → r ≡ is_empty_revert part
+  pub past_jumpdest : 1 ≤ length part → get_or part 0 0 ≡ JUMPDEST → r ≡ begins_empty_revert (take (length part - 1) (drop 1 part)) → r ≡ is_empty_revert part
   unfolding is_empty_revert
   past_jumpdest n e er = er ∙ ap begins_empty_revert (from_place part 1 ∙ after_is part n e)
 
   pub no_jumpdest : (get_or part 0 0 ≡ JUMPDEST → ⊥) → r ≡ begins_empty_revert part → r ≡ is_empty_revert part
   unfolding is_empty_revert
   no_jumpdest n er = er ∙ ap begins_empty_revert (after_not part n)
+
+  pub no_byte : length part < 1 → r ≡ begins_empty_revert part → r ≡ is_empty_revert part
+  no_byte h = no_jumpdest (λ e. apart part h e)
+    where
+      apart : (l : List ℕ) → length l < 1 → get_or l 0 0 ≡ JUMPDEST → ⊥
+      apart [] l e = omega arith
+      apart (x ∷ l) h e = omega arith

@@ -13,30 +13,9 @@ pub use dense::dense_min_calldata_words;
 pub use guard::{guard_failure_pc, is_division_check, is_empty_revert_guard};
 pub use length::direct_min_calldata_words;
 
-// A place of the code, or none.
-#[derive(Clone, Copy)]
-pub enum Place {
-    At(usize),
-    Nowhere,
-}
-
 // A jump whose target is pushed just before it: where it leads, and the place behind it.
-#[derive(Clone, Copy)]
-pub enum Jump {
-    To { target: u32, next: usize },
-    Absent,
-}
-
-// The least length of call data, in bytes, that the code lets pass, or no reading of it.
-#[derive(Clone, Copy)]
-pub enum MinSize {
-    Length(u32),
-    Unread,
-}
-
-// The same in words of arguments, or none.
-#[derive(Clone, Copy)]
-pub enum Words {
-    Count(u32),
-    Nothing,
+#[derive(Clone, Copy, Debug, PartialEq, Eq)]
+pub struct Jump {
+    pub target: u32,
+    pub next: usize,
 }

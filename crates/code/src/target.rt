@@ -6,19 +6,17 @@ use crate::Jump;
 use crate::bytes::{byte_is, number_at, push_size_at};
 use opcode::JUMPI;
 
-pub fn jump_at(code: &[u8], at: usize) -> Jump
+#[tactic(auto, unfolding(crate::specs::Jump::jump_at))]
+pub fn jump_at(code: &[u8], at: usize) -> Option<Jump>
     requires { at ≤ 2 ^ 32 }
     ensures { result ≡ jump_at code.now at }
 {
-    let size = push_size_at(code, at);
-    if size == 0 {
-        return Jump::Absent;
-    }
+    let size = push_size_at(code, at)?;
     if !byte_is(code, at + 1 + size, JUMPI) {
-        return Jump::Absent;
+        return None;
     }
-    Jump::To {
+    Some(Jump {
         target: number_at(code, at + 1, size),
         next: at + 2 + size,
-    }
+    })
 }

@@ -1,8 +1,7 @@
 // What each kind of vector calls, and how its answer is written.
 use crate::vector::{CODE, code_length, first_word, flag, kind, number, second_word};
-use code::{Place, Words};
 use vectors::{STDOUT_FILENO, put, put_number};
-use word::{Kept, Multiplier, U256};
+use word::{Multiplier, U256};
 
 fn put_bool(b: bool) {
     if b {
@@ -30,11 +29,16 @@ fn put_word(x: U256) {
     put_hex(numbers[7]);
 }
 
-fn put_kept(k: Kept) {
-    match k {
-        Kept::Number(n) => put_number(n as u64),
-        Kept::TooLarge => put(b" not kept"),
+// A number, or the words for none.
+fn put_number_or(n: Option<u64>, none: &[u8]) {
+    match n {
+        Some(n) => put_number(n),
+        None => put(none),
     }
+}
+
+fn put_kept(k: Option<u32>) {
+    put_number_or(k.map(u64::from), b" not kept");
 }
 
 fn put_multiplier(m: Multiplier) {
@@ -46,18 +50,12 @@ fn put_multiplier(m: Multiplier) {
     }
 }
 
-fn put_place(p: Place) {
-    match p {
-        Place::At(at) => put_number(at as u64),
-        Place::Nowhere => put(b" none"),
-    }
+fn put_place(p: Option<usize>) {
+    put_number_or(p.map(|at| at as u64), b" none");
 }
 
-fn put_words(w: Words) {
-    match w {
-        Words::Count(n) => put_number(n as u64),
-        Words::Nothing => put(b" none"),
-    }
+fn put_words(w: Option<u32>) {
+    put_number_or(w.map(u64::from), b" none");
 }
 
 fn answer_word(kind: u8, x: U256, y: U256, n: u32, flag: bool) {
@@ -69,7 +67,7 @@ fn answer_word(kind: u8, x: U256, y: U256, n: u32, flag: bool) {
         5 => put_word(word::power::power_of_two(x)),
         6 => put_multiplier(word::multiply::read_multiplier(x)),
         7 => put_bool(word::range::is_range_bound(x, flag)),
-        8 => put_bool(word::compare::equal(x, y)),
+        8 => put_bool(x == y),
         9 => put_bool(word::compare::is_zero(x)),
         10 => put_bool(word::compare::is_max(x)),
         11 => put_bool(word::compare::equals_number(x, n as u64)),
@@ -82,7 +80,7 @@ fn answer_opcode(op: u8) {
     put_bool(opcode::clears_operands(op));
     put_bool(opcode::ends_decoder(op));
     put_bool(opcode::needs_slot(op));
-    put_number(opcode::push_size(op) as u64);
+    put_number(opcode::push_size(op).unwrap_or(0) as u64);
 }
 
 fn answer_code(kind: u8, code: &[u8], pc: u32, flag: bool, packed: U256) {

@@ -1,4 +1,5 @@
 -- m AND (m + 1) is zero just where m + 1 is a power of two, and then the power is the number of m's ones.
+use Rattle.std.proofs.Common.{Some, None}
 use mathlib.Core.Path.{◌≡◌, refl, sym, ap, ◌∙◌}
 use mathlib.Core.Bool.{Bool, true, false}
 use Prim.Native.Nat.{ℕ, suc, ◌+◌, ◌-◌, ◌*◌, ◌/◌, ◌%◌, ◌^◌, ◌≤◌, ◌<◌}
@@ -61,16 +62,11 @@ module _ (m next both : ℕ) (test : Bool) (en : next ≡ (m + 1) % 2 ^ 256) (eb
   common : both ≡ bit_and m ((m + 1) % 2 ^ 256)
   common = eb ∙ ap (bit_and m) en
 
-  pub run_of_ones : (r : ℕ) → m < 2 ^ 256 → test ≡ true → r ≡ ones m → Run m r
-  run_of_ones r l taken e = record {
-    small = let b = ones-le 256 m l in omega arith;
-    run = λ _. power_wrapped (2 ^ 256) m l refl (sym common ∙ eqb-true both 0 (sym et ∙ taken)) ∙ ap (λ (n : ℕ). 2 ^ n) (sym e);
-    only = λ k h f. e ∙ power_ones m k f;
-  }
+  pub run_of_ones : (r : ℕ) → m < 2 ^ 256 → test ≡ true → r ≡ ones m → Run m (Some r)
+  run_of_ones r l taken e = (
+    let b = ones-le 256 m l in omega arith,
+    power_wrapped (2 ^ 256) m l refl (sym common ∙ eqb-true both 0 (sym et ∙ taken)) ∙ ap (λ (n : ℕ). 2 ^ n) (sym e),
+  )
 
-  pub no_run : test ≡ false → Run m 257
-  no_run left = record {
-    small = omega arith;
-    run = λ h. absurd (omega arith);
-    only = λ k h f. absurd (eqb-false both 0 (sym et ∙ left) (common ∙ power_apart m k h f));
-  }
+  pub no_run : test ≡ false → Run m None
+  no_run left k h f = eqb-false both 0 (sym et ∙ left) (common ∙ power_apart m k h f)

@@ -1,13 +1,14 @@
 -- The definition is document 01's sentence: "zero gives none; low ones in whole bytes give uint, 160 of them address;
 -- else leading ff bytes, the rest zero, give fixed bytes".
+use Rattle.std.proofs.Common.{Option, Some, None}
 use mathlib.Core.Path.{◌≡◌, refl, sym, ap, ◌∙◌, subst}
 use mathlib.Core.Logic.{◌↔◌, ◌⊎◌, inl, inr}
-use Prim.Native.Nat.{ℕ, ◌+◌, ◌-◌, ◌*◌, ◌^◌, ◌≤◌, ◌<◌}
-use native.Mathlib.Decide.{dec_lt, ℕ_discrete}
+use Prim.Native.Nat.{ℕ, ◌+◌, ◌-◌, ◌*◌, ◌^◌, ◌≤◌}
+use native.Mathlib.Decide.{ℕ_discrete}
 use native.Mathlib.Omega.{arith}
 use Rattle.limits.specs.Codes.{no_name, address, uint, fixed_bytes}
 use Rattle.mask.specs.Mask.{low_ones, leading_ff, low_bytes, leading_bytes, and_mask_to_type}
-use Rattle.mask.proofs.ByteCounts.{low_count, leading_count, nowhere_zero, zero_nowhere}
+use Rattle.mask.proofs.ByteCounts.{Count, low_count, leading_count, low_counted, leading_counted}
 use Rattle.mask.proofs.Names.{name_address, name_uint, name_bytes, name_none}
 
 -- m is no low ones in whole bytes, and no leading ff bytes with the rest zero
@@ -28,26 +29,28 @@ module _ (m : ℕ) where
   -- a name that the sentence gives is the definition's
   pub gives_name : (name : ℕ) → Gives m name → name ≡ and_mask_to_type m
   unfolding low_ones leading_ff
-  gives_name name (to_address e) = name_address m 20 ((low_count m).only 20 (omega arith) (omega arith) e) refl
-  gives_name name (to_uint n p q f e) = name_uint m n ((low_count m).only n p q e) (λ h. f (omega arith)) (omega arith)
+  gives_name name (to_address e) = name_address m 20 (low_counted m (Some 20) (omega arith, omega arith, e)) refl
+  gives_name name (to_uint n p q f e) = name_uint m n (low_counted m (Some n) (p, q, e)) (λ h. f (omega arith))
   gives_name name (to_bytes n p q e none) =
-      name_bytes m 0 (nowhere_zero low_ones m 32 _ (low_count m) none) n ((leading_count m).only n p q e) refl (omega arith)
-  gives_name name (to_none none nowhere) =
-      name_none m 0 (nowhere_zero low_ones m 32 _ (low_count m) none) 0 (nowhere_zero leading_ff m 32 _ (leading_count m) nowhere) refl refl
+      name_bytes m (low_counted m None none) n (leading_counted m (Some n) (p, q, e))
+  gives_name name (to_none none nowhere) = name_none m (low_counted m None none) (leading_counted m None nowhere)
 
   -- the sentence gives every mask a name
   pub some_name : (name : ℕ) × Gives m name
   unfolding low_ones leading_ff
-  some_name = low (dec_lt 0 (low_bytes m)) (ℕ_discrete (low_bytes m) 20)
+  some_name = low (low_bytes m) (low_count m)
     where
-      leading : NoLowOnes m → Dec (0 < leading_bytes m) → (name : ℕ) × Gives m name
-      leading none (yes p) = (_, to_bytes (leading_bytes m) p (leading_count m).small ((leading_count m).has p) none)
-      leading none (no p) = (_, to_none none (zero_nowhere leading_ff m 32 _ (leading_count m) p))
+      leading : NoLowOnes m → (o : Option ℕ) → Count leading_ff m 32 o → (name : ℕ) × Gives m name
+      leading none (Some n) c = (_, to_bytes n c.0 c.1 c.2 none)
+      leading none None c = (_, to_none none c)
 
-      low : Dec (0 < low_bytes m) → Dec (low_bytes m ≡ 20) → (name : ℕ) × Gives m name
-      low (yes p) (yes e) = (_, to_address ((low_count m).has p ∙ ap low_ones e))
-      low (yes p) (no f) = (_, to_uint (low_bytes m) p (low_count m).small f ((low_count m).has p))
-      low (no p) d = leading (zero_nowhere low_ones m 32 _ (low_count m) p) (dec_lt 0 (leading_bytes m))
+      uints : (n : ℕ) → Count low_ones m 32 (Some n) → Dec (n ≡ 20) → (name : ℕ) × Gives m name
+      uints n c (yes e) = (_, to_address (c.2 ∙ ap low_ones e))
+      uints n c (no f) = (_, to_uint n c.0 c.1 f c.2)
+
+      low : (o : Option ℕ) → Count low_ones m 32 o → (name : ℕ) × Gives m name
+      low (Some n) c = uints n c (ℕ_discrete n 20)
+      low None c = leading c (leading_bytes m) (leading_count m)
 
   -- so each name of the definition is one that the sentence gives
   pub name_given : Gives m (and_mask_to_type m)

@@ -1,63 +1,63 @@
 // The type that a mask names, by mask AND mask plus one over four limbs.
 #![tactic(auto)]
 
-ghost use Rattle.std.specs.Prelude.{◌≡◌, ◌≤◌};
+ghost use Rattle.std.specs.Prelude.{◌≡◌, ◌≤◌, IfSome};
 ghost use Rattle.word.specs.Value.{value_of};
 ghost use Rattle.mask.specs.Mask.{low_bytes, leading_bytes, and_mask_to_type};
 ghost use Rattle.mask.specs.Run.{Run};
 
 use limits::ADDRESS_BITS;
 use limits::codes::{ADDRESS, FIXED_BYTES, NO_NAME, UINT};
+use word::U256;
 use word::bits::{and, count_ones, not};
 use word::compare::is_zero;
 use word::sum::add;
-use word::{ONE, U256};
 
-// The mask is no run of low ones: more than any count of bits, and no multiple of 8.
-const NO_RUN: u32 = 257;
-
-// How many low ones m is, and NO_RUN where it is anything else. m and m + 1 have no bit in common just where m + 1 is a
-// power of two.
-fn low_run(m: U256) -> u32
+// How many low ones m is, if it is nothing else. m and m + 1 have no bit in common just where m + 1 is a power of two.
+fn low_run(m: U256) -> Option<u32>
     ensures { Run (value_of m) result }
 {
-    if is_zero(and(m, add(m, ONE))) {
-        count_ones(m)
+    if is_zero(and(m, add(m, U256::ONE))) {
+        Some(count_ones(m))
     } else {
-        NO_RUN
+        None
     }
 }
 
-// How many whole bytes of low ones m is; 0 where it is no such mask.
-fn low_bytes(m: U256) -> u32
-    ensures { (result ≡ low_bytes (value_of m)) × (result ≤ 32) }
+// How many whole bytes of low ones m is, if it is such a mask.
+fn low_bytes(m: U256) -> Option<u32>
+    ensures { (result ≡ low_bytes (value_of m)) × IfSome result (λ n. n ≤ 32) }
 {
-    let run = low_run(m);
-    if run % 8 == 0 { run / 8 } else { 0 }
+    match low_run(m) {
+        Some(run) if run % 8 == 0 && run > 0 => Some(run / 8),
+        _ => None,
+    }
 }
 
-// How many leading ff bytes m has, the rest zero; 0 where it is no such mask. They are the complement of low ones.
-fn leading_bytes(m: U256) -> u32
-    ensures { (result ≡ leading_bytes (value_of m)) × (result ≤ 32) }
+// How many leading ff bytes m has, the rest zero, if it is such a mask. They are the complement of low ones.
+fn leading_bytes(m: U256) -> Option<u32>
+    ensures { (result ≡ leading_bytes (value_of m)) × IfSome result (λ n. n ≤ 32) }
 {
-    let run = low_run(not(m));
-    if run % 8 == 0 { 32 - run / 8 } else { 0 }
+    match low_run(not(m)) {
+        Some(run) if run % 8 == 0 && run < 256 => Some(32 - run / 8),
+        _ => None,
+    }
 }
 
-// The name that a mask gives, NO_NAME for none.
+// The name that a mask gives. A name is a number of the format, in which a record's name is stored; there 0, NO_NAME,
+// stands for none.
 pub fn and_mask_to_type(m: U256) -> u32
     ensures { result ≡ and_mask_to_type (value_of m) }
 {
-    let low = low_bytes(m);
-    if 8 * low == ADDRESS_BITS {
-        return ADDRESS;
+    if let Some(low) = low_bytes(m) {
+        if 8 * low == ADDRESS_BITS {
+            ADDRESS
+        } else {
+            UINT + 8 * low
+        }
+    } else if let Some(leading) = leading_bytes(m) {
+        FIXED_BYTES + leading
+    } else {
+        NO_NAME
     }
-    if low != 0 {
-        return UINT + 8 * low;
-    }
-    let leading = leading_bytes(m);
-    if leading != 0 {
-        return FIXED_BYTES + leading;
-    }
-    NO_NAME
 }

@@ -1,5 +1,5 @@
 -- What document 01 and `analyze` ask of an opcode, as their lists.
-use Rattle.std.specs.Prelude.{ℕ, ◌-◌, Bool, false, cond, ◌||◌, List, [], ◌∷◌, eqb}
+use Rattle.std.specs.Prelude.{ℕ, ◌-◌, Bool, false, cond, ◌||◌, List, [], ◌∷◌, eqb, Option, Some, None}
 use Rattle.limits.specs.Between.{between}
 use Rattle.opcode.specs.Opcode.{ADD, MUL, SUB, DIV, MOD, EXP, LT, GT, EQ, ISZERO, AND, SHL, KECCAK256, BALANCE}
 use Rattle.opcode.specs.Opcode.{CALLDATALOAD, EXTCODESIZE, EXTCODECOPY, EXTCODEHASH, MLOAD, SLOAD, SSTORE, JUMPI}
@@ -31,6 +31,6 @@ calls = CALL ∷ CALLCODE ∷ DELEGATECALL ∷ STATICCALL ∷ []
 unfoldable pub slot_needers : List ℕ
 slot_needers = CALLDATALOAD ∷ ADD ∷ MUL ∷ SHL ∷ LT ∷ GT ∷ AND ∷ ISZERO ∷ MLOAD ∷ []
 
--- "PUSH1 to PUSH4 in guards": how many bytes the opcode pushes; 0 where it is none of the four
-unfoldable pub push_size : ℕ → ℕ
-push_size op = cond (between PUSH1 PUSH4 op) (op - PUSH0) 0
+-- "PUSH1 to PUSH4 in guards": how many bytes the opcode pushes, if it is one of the four
+unfoldable pub push_size : ℕ → Option ℕ
+push_size op = cond (between PUSH1 PUSH4 op) (Some (op - PUSH0)) None

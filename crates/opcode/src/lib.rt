@@ -1,4 +1,5 @@
-// Opcodes by name, and one decision each over an opcode for the questions that document 01 asks of it.
+// Opcodes by name, and one decision each over an opcode for the questions that document 01 asks of it. An opcode is a
+// byte and no enum: each of the 256 bytes is one, and those without a name go the common way.
 #![tactic(auto)]
 
 mod decide;

@@ -1,11 +1,9 @@
 -- What `multiplier_of` says of a multiplier, both ways, so that no caller opens it.
-use Rattle.std.proofs.Common.{◌≡◌, ℕ, ◌*◌, ◌/◌, ◌%◌, ◌<◌, ◌≤◌, Bool, true, false, cond, ◌&&◌, eqb, leb, sym, refl, ap, ◌∙◌, subst, arith, eq-eqb, ne_eqb, eqb-true, le-leb, leb-true}
+use Rattle.std.proofs.Common.{Option, Some, None, ◌≡◌, ℕ, ◌*◌, ◌/◌, ◌%◌, ◌<◌, ◌≤◌, Bool, true, false, cond, ◌&&◌, eqb, leb, sym, refl, ap, ◌∙◌, subst, arith, eq-eqb, ne_eqb, eqb-true, le-leb, leb-true}
 use mathlib.Core.Bool.{false≢true}
 use borrow.Author.Tests.{eqb-false}
 use Rattle.word.specs.Kept.{kept_of}
 use Rattle.word.specs.Multiplier.{is_array_mark, multiplier_of}
-use Rattle.word.specs.declared.Kept.{Kept}
-use Rattle.word.specs.declared.Kept.TheVariants.{Number, TooLarge}
 use Rattle.word.specs.declared.Multiplier.{Multiplier}
 use Rattle.word.specs.declared.Multiplier.TheVariants.{One, Two, Array, Other}
 use Rattle.word.proofs.Comparisons.{both_true}
@@ -68,11 +66,11 @@ pub array_is : (m k : ℕ) → multiplier_of m ≡ Array k → (m ≡ 32 * k) ×
 array_is m k = multiplier_is m (Array k)
 
 -- the multiplier as it was kept
-module _ (m : ℕ) (kept : Kept) (given : kept ≡ kept_of m) where
-  pub lost_multiplier : kept ≡ TooLarge → Other ≡ multiplier_of m
+module _ (m : ℕ) (kept : Option ℕ) (given : kept ≡ kept_of m) where
+  pub lost_multiplier : kept ≡ None → Other ≡ multiplier_of m
   lost_multiplier e = let l = is_lost m kept given e in reading_is m Other (omega arith)
 
-  pub kept_multiplier : (n : ℕ) → kept ≡ Number n → (r : Multiplier) → MultiplierSays n r → r ≡ multiplier_of m
+  pub kept_multiplier : (n : ℕ) → kept ≡ Some n → (r : Multiplier) → MultiplierSays n r → r ≡ multiplier_of m
   kept_multiplier n e r h = reading_is n r h ∙ ap multiplier_of (is_kept m kept given n e)
 
 -- which numbers count words

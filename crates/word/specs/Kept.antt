@@ -1,7 +1,5 @@
 -- "then kept if below 2^32".
-use Rattle.std.specs.Prelude.{ℕ, ◌^◌, cond, nat_lt}
-use Rattle.word.specs.declared.Kept.{Kept}
-use Rattle.word.specs.declared.Kept.TheVariants.{Number, TooLarge}
+use Rattle.std.specs.Prelude.{ℕ, ◌^◌, cond, nat_lt, Option, Some, None}
 
-unfoldable pub kept_of : ℕ → Kept
-kept_of n = cond (nat_lt n (2 ^ 32)) (Number n) TooLarge
+unfoldable pub kept_of : ℕ → Option ℕ
+kept_of n = cond (nat_lt n (2 ^ 32)) (Some n) None

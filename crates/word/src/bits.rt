@@ -30,5 +30,5 @@ pub fn not(x: U256) -> U256
 pub fn count_ones(x: U256) -> u32
     ensures { result ≡ count_ones (value_of x) }
 {
-    u64::count_ones(x.l3) + u64::count_ones(x.l2) + u64::count_ones(x.l1) + u64::count_ones(x.l0)
+    x.l3.count_ones() + x.l2.count_ones() + x.l1.count_ones() + x.l0.count_ones()
 }

@@ -4,30 +4,20 @@ ghost use Rattle.word.specs.Value.{value_of};
 ghost use Rattle.word.specs.Multiplier.{multiplier_of};
 
 use crate::sum::keep;
-use crate::{Kept, Multiplier, U256};
+use crate::{Multiplier, U256};
 use limits::{ARRAY_COUNT_MAX, WORD_BYTES};
+
+const ARRAY_MARK_MAX: u32 = WORD_BYTES * ARRAY_COUNT_MAX;
 
 pub fn read_multiplier(m: U256) -> Multiplier
     ensures { result ≡ multiplier_of (value_of m) }
 {
-    let kept = keep(m);
-    let Kept::Number(n) = kept else {
-        return Multiplier::Other;
-    };
-    if n == 1 {
-        return Multiplier::One;
+    match keep(m) {
+        Some(1) => Multiplier::One,
+        Some(2) => Multiplier::Two,
+        Some(n) if n % WORD_BYTES == 0 && WORD_BYTES <= n && n <= ARRAY_MARK_MAX => {
+            Multiplier::Array(n / WORD_BYTES)
+        }
+        _ => Multiplier::Other,
     }
-    if n == 2 {
-        return Multiplier::Two;
-    }
-    if n % WORD_BYTES != 0 {
-        return Multiplier::Other;
-    }
-    if n < WORD_BYTES {
-        return Multiplier::Other;
-    }
-    if n > WORD_BYTES * ARRAY_COUNT_MAX {
-        return Multiplier::Other;
-    }
-    Multiplier::Array(n / WORD_BYTES)
 }

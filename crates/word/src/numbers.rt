@@ -10,7 +10,7 @@ use crate::U256;
 fn joined(high: u32, low: u32) -> u64
     ensures { result ≡ high * 2 ^ 32 + low }
 {
-    (high as u64) * 0x1_0000_0000 + low as u64
+    u64::from(high) << 32 | u64::from(low)
 }
 
 // The word at an index of s.

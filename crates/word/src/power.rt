@@ -3,14 +3,14 @@ ghost use Rattle.std.specs.Prelude.{◌≡◌, ◌^◌, ◌<◌};
 ghost use Rattle.word.specs.Value.{value_of};
 ghost use Rattle.word.specs.Arithmetic.{power_of};
 
+use crate::U256;
 use crate::sum::keep;
-use crate::{Kept, U256, ZERO};
 
 fn power_below_256(shift: u32) -> U256
     requires { shift < 256 }
     ensures { value_of result ≡ 2 ^ shift }
 {
-    let mut x = ZERO;
+    let mut x = U256::ZERO;
     if shift < 64 {
         x.l0 = 1 << shift;
     } else if shift < 128 {
@@ -27,9 +27,8 @@ fn power_below_256(shift: u32) -> U256
 pub fn power_of_two(shift: U256) -> U256
     ensures { value_of result ≡ power_of (value_of shift) }
 {
-    let kept = keep(shift);
-    match kept {
-        Kept::TooLarge => ZERO,
-        Kept::Number(n) => { if n < 256 { power_below_256(n) } else { ZERO } }
+    match keep(shift) {
+        Some(n) if n < 256 => power_below_256(n),
+        _ => U256::ZERO,
     }
 }

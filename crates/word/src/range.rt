@@ -3,26 +3,20 @@ ghost use Rattle.std.specs.Prelude.{◌≡◌};
 ghost use Rattle.word.specs.Value.{value_of};
 ghost use Rattle.word.specs.Range.{is_range_bound};
 
+use crate::U256;
 use crate::sum::keep;
-use crate::{Kept, U256};
 use limits::RANGE_BOUND_MAX;
 
 // Does the bound name a range? The comparison is value < bound if less_than, else value > bound.
 pub fn is_range_bound(bound: U256, less_than: bool) -> bool
     ensures { result ≡ is_range_bound (value_of bound) less_than }
 {
-    let kept = keep(bound);
-    let Kept::Number(n) = kept else {
+    let Some(n) = keep(bound) else {
         return false;
     };
     if less_than {
-        if n < 2 {
-            return false;
-        }
-        return n <= RANGE_BOUND_MAX + 1;
+        2 <= n && n <= RANGE_BOUND_MAX + 1
+    } else {
+        1 <= n && n <= RANGE_BOUND_MAX
     }
-    if n < 1 {
-        return false;
-    }
-    n <= RANGE_BOUND_MAX
 }

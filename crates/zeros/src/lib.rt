@@ -4,17 +4,11 @@
 ghost use Rattle.std.specs.Prelude.{◌≡◌, ◌+◌, ◌≤◌, length};
 ghost use Rattle.zeros.specs.Zeros.{zeros};
 
-// Are n numbers of s from `at` on all zero? No branch in the loop, so that the compiler takes several numbers at a
+// Are n numbers of s from `at` on all zero? No branch in the fold, so that the compiler takes several numbers at a
 // time.
 pub fn are_zero(s: &[u32], at: usize, n: usize) -> bool
     requires { at + n ≤ length s.now }
     ensures { result ≡ zeros s.now at n }
 {
-    let mut any: u32 = 0;
-    let mut i = 0;
-    while i < n {
-        any = any | s[at + i];
-        i += 1;
-    }
-    any == 0
+    s[at..at + n].iter().fold(0, |any, x| any | x) == 0
 }

@@ -1,0 +1,10 @@
+-- `arms::lengths::compare`: what is chosen of the operands is a used record.
+use borrow.Author.Rules.{rules}
+use Rattle.analyze.proofs.Reach.{given_choice}
+use Rattle.arms.proofs.lengths.compare.Goals as goal
+
+pub compare_with-requires : goal.compare_with-requires
+compare_with-requires c = search (given_choice, rules)
+
+pub compare_with-requires-2 : goal.compare_with-requires-2
+compare_with-requires-2 c = search (given_choice, rules)
