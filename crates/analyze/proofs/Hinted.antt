@@ -65,7 +65,7 @@ module _ (s : List Node) (active : Bool) (bytes : List ℕ) (x : Step) where
   operands_same = go (listed x.op operand_clearers) refl
     where
       some : Bool
-      some = not (eqb x.op EQ) || eqb (compares_words x) 1
+      some = not (eqb x.op EQ) || compares_words x
 
       cleared : Hints
       cleared = both (clear x.first.label (compares_words x)) (clear x.second.label (compares_words x))

@@ -33,7 +33,7 @@ pub record HintsClear (h : Hints) : Type 0 where
   pub first : Clears h.first
   pub second : Clears h.second
 
-clear_clears : (l : Label) (block : ℕ) → Clears (clear l block)
+clear_clears : (l : Label) (block : Bool) → Clears (clear l block)
 clear_clears Unlabelled block = tt
 clear_clears CallData block = tt
 clear_clears (Arg v) block = tt
@@ -43,7 +43,7 @@ pub hints_clear : (active : Bool) (x : Step) → HintsClear (hints_of active x)
 unfolding hints_of clear_operands
 hints_clear active x =
     cond_has HintsClear (eqb x.op REVERT && active) _ _ (record { first = tt; second = tt })
-    (cond_has HintsClear (listed x.op operand_clearers && (not (eqb x.op EQ) || eqb (compares_words x) 1)) _ _
+    (cond_has HintsClear (listed x.op operand_clearers && (not (eqb x.op EQ) || compares_words x)) _ _
     (record {
       first = clear_clears x.first.label (compares_words x);
       second = clear_clears x.second.label (compares_words x);
@@ -63,22 +63,17 @@ clears_stores (SetDynamic p k count) C = absurd C
 clears_stores (SetArray r count) C = absurd C
 
 module _ (u : ℕ) where
-  clear_reaches : (l : Label) (block : ℕ) → LabelReaches u l → block ≤ 1 → Reaches u (clear l block)
-  clear_reaches l block L h = arg_has (Reaches u) u l _ Nothing L (λ v U. (U, h)) tt
-
-  block_most : (x : Step) → compares_words x ≤ 1
-  block_most x =
-      cond_has (λ n. n ≤ 1) (eqb x.op EQ && is_arg x.first.label && is_arg x.second.label) 1 0 (omega arith)
-      (omega arith)
+  clear_reaches : (l : Label) (block : Bool) → LabelReaches u l → Reaches u (clear l block)
+  clear_reaches l block L = arg_has (Reaches u) u l _ Nothing L (λ v U. U) tt
 
   pub hints_reach : (active : Bool) (x : Step) → StepReaches u x → HintsReach u (hints_of active x)
   unfolding hints_of clear_operands
   hints_reach active x R =
       cond_has (HintsReach u) (eqb x.op REVERT && active) _ _ (record { first = tt; second = tt })
-      (cond_has (HintsReach u) (listed x.op operand_clearers && (not (eqb x.op EQ) || eqb (compares_words x) 1)) _ _
+      (cond_has (HintsReach u) (listed x.op operand_clearers && (not (eqb x.op EQ) || compares_words x)) _ _
       (record {
-        first = clear_reaches x.first.label (compares_words x) R.first (block_most x);
-        second = clear_reaches x.second.label (compares_words x) R.second (block_most x);
+        first = clear_reaches x.first.label (compares_words x) R.first;
+        second = clear_reaches x.second.label (compares_words x) R.second;
       })
       (record { first = tt; second = tt }))
 

@@ -24,17 +24,17 @@ abbrev pub both : Operation → Operation → Hints
 both a b = record { first = a; second = b }
 
 -- the hint of one operand cleared, and blocked if asked: `args.clear_range_hint(val, block)`
-abbrev pub clear : Label → ℕ → Operation
+abbrev pub clear : Label → Bool → Operation
 clear l block = on_arg l (λ v. ClearRangeHint v.path v.offset block) Nothing
 
--- EQ of two argument labels blocks both (decision D4): 1 where EQ's operands are both arguments, be it one and the same
-abbrev pub compares_words : Step → ℕ
-compares_words x = cond (eqb x.op EQ && is_arg x.first.label && is_arg x.second.label) 1 0
+-- EQ of two argument labels blocks both (decision D4): are EQ's operands both arguments, be it one and the same?
+abbrev pub compares_words : Step → Bool
+compares_words x = eqb x.op EQ && is_arg x.first.label && is_arg x.second.label
 
 -- the hints of both operands, at DIV, MOD, SUB, EXP, EQ, ISZERO, JUMPI and SLOAD; at EQ only where both are arguments
 unfoldable pub clear_operands : Step → Hints
 clear_operands x =
-    cond (listed x.op operand_clearers && (not (eqb x.op EQ) || eqb (compares_words x) 1))
+    cond (listed x.op operand_clearers && (not (eqb x.op EQ) || compares_words x))
     (both (clear x.first.label (compares_words x)) (clear x.second.label (compares_words x)))
     (both Nothing Nothing)
 

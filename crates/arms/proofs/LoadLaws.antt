@@ -7,12 +7,11 @@ use native.Mathlib.Omega.{arith}
 use lib.Dec.{eqb, leb}
 use borrow.Author.Tests.{eq-eqb, ne_eqb, le-leb, lt-leb, leb-true}
 use Rattle.limits.specs.Limits.{word_bytes, selector_bytes, kind_array, records_max}
-use Rattle.facts.specs.State.{Node, nodes, node_of}
+use Rattle.facts.specs.State.{Node, node_of}
 use Rattle.kinds.specs.Kinds.{arrays_up, arrays_in_path}
 use Rattle.labels.specs.declared.Val.{Val}
 use Rattle.operations.specs.Asks.{IsUsed}
 use Rattle.analyze.specs.Load.{is_whole_word, arrays_off, new_offset}
-use Rattle.analyze.specs.Ready.{Ready}
 
 -- a whole word is behind the selector
 pub whole_least : (a : ℕ) → is_whole_word a ≡ true → selector_bytes ≤ a
@@ -38,12 +37,10 @@ pub arrays_most : (s : List Node) (r : ℕ) → arrays_in_path s r ≤ r
 unfolding arrays_in_path
 arrays_most s r = up_most r s r
 
-pub few_arrays : (t : List ℕ) (u n : ℕ) (v : Val) (m : ℕ) → Ready t u n × IsUsed u v.path → m ≡ arrays_in_path (nodes t u) v.path → m ≤ records_max
-few_arrays t u n v m R e =
-    let h = arrays_most (nodes t u) v.path in
-    let l = R.1.to in
-    let k = R.0.shaped.most in
-    let w = R.0.small in
+pub few_arrays : (s : List Node) (u n : ℕ) (v : Val) (m : ℕ) → u ≤ n → n ≤ records_max → IsUsed u v.path → m ≡ arrays_in_path s v.path → m ≤ records_max
+few_arrays s u n v m k w U e =
+    let h = arrays_most s v.path in
+    let l = U.to in
     omega arith
 
 -- what is taken off for arrays

@@ -1,9 +1,9 @@
 // The arm of an opcode, and the plan of a step.
 ghost use Rattle.std.specs.Prelude.{◌≡◌};
-ghost use Rattle.facts.specs.State.{nodes};
+ghost use Rattle.paths.specs.Lent.{facts_of};
 ghost use Rattle.analyze.specs.Arms.{arm};
 ghost use Rattle.analyze.specs.Analyze.{plan_of};
-ghost use Rattle.analyze.specs.Ready.{Ready, StepReaches};
+ghost use Rattle.analyze.specs.Ready.{StepReaches};
 
 use crate::lengths::{compare, mul, shl};
 use crate::loads::load;
@@ -17,20 +17,21 @@ use opcode::{
     ADD, AND, BYTE, CALL, CALLCODE, CALLDATACOPY, CALLDATALOAD, DELEGATECALL, EQ, GT, ISZERO, LT,
     MLOAD, MSTORE8, MUL, SDIV, SHL, SHR, SIGNEXTEND, SMOD, STATICCALL, ends_decoder,
 };
+use paths::Facts;
 
 // The arm of the step's opcode.
-fn arm(table: &[u32], n: u32, used: u32, active: bool, code: &[u8], step: Step) -> Plan
-    requires { Ready table.now used n × StepReaches used step }
-    ensures { result ≡ arm (nodes table.now used) active code.now step }
+fn arm(facts: &Facts, active: bool, code: &[u8], step: Step) -> Plan
+    requires { StepReaches facts.now.used step }
+    ensures { result ≡ arm (facts_of facts.now) active code.now step }
 {
     let op = step.op;
     match op {
-        CALLDATALOAD | CALLDATACOPY => load(table, n, used, step),
+        CALLDATALOAD | CALLDATACOPY => load(facts, step),
         CALL | CALLCODE | DELEGATECALL | STATICCALL => call(step),
-        ADD => add(table, n, used, step),
-        SHL => shl(table, n, used, active, code, step),
-        MUL => mul(table, n, used, step),
-        LT | GT => compare(table, n, used, step),
+        ADD => add(facts, step),
+        SHL => shl(facts, active, code, step),
+        MUL => mul(facts, step),
+        LT | GT => compare(facts, step),
         MSTORE8 => mstore8(step),
         SHR => shr(active, code, step),
         SDIV | SMOD => signed(step),
@@ -46,12 +47,12 @@ fn arm(table: &[u32], n: u32, used: u32, active: bool, code: &[u8], step: Step) 
 
 // What a step does behind its first phase: the range rule's plan if it applies, else its arm's.
 #[tactic(auto, unfolding(analyze::specs::Analyze::plan_of, analyze::specs::Phases::active_after))]
-pub fn plan_of(table: &[u32], n: u32, used: u32, active: bool, code: &[u8], step: Step) -> Plan
-    requires { Ready table.now used n × StepReaches used step }
-    ensures { result ≡ plan_of (nodes table.now used) active code.now step }
+pub fn plan_of(facts: &Facts, active: bool, code: &[u8], step: Step) -> Plan
+    requires { StepReaches facts.now.used step }
+    ensures { result ≡ plan_of (facts_of facts.now) active code.now step }
 {
     if range_rule(active, code, step) {
         return range_plan(step);
     }
-    arm(table, n, used, active & !ends_decoder(step.op), code, step)
+    arm(facts, active & !ends_decoder(step.op), code, step)
 }

@@ -15,21 +15,14 @@ fn is_arg(label: Label) -> bool
     matches!(label, Label::Arg(_))
 }
 
-// 1 where EQ compares two arguments, which blocks both: prior word comparisons rule out new range hints.
-fn compares_words(step: Step) -> u32
+// Does EQ compare two arguments? That blocks both: prior word comparisons rule out new range hints.
+fn compares_words(step: Step) -> bool
     ensures { result ≡ compares_words step }
 {
-    let first = step.first;
-    let second = step.second;
-    let first_label = first.label;
-    let second_label = second.label;
-    if (step.op == EQ) & is_arg(first_label) & is_arg(second_label) {
-        return 1;
-    }
-    0
+    (step.op == EQ) & is_arg(step.first.label) & is_arg(step.second.label)
 }
 
-fn clear_operand(label: Label, block: u32) -> Operation
+fn clear_operand(label: Label, block: bool) -> Operation
     ensures { result ≡ clear label block }
 {
     let Label::Arg(val) = label else {
@@ -50,14 +43,10 @@ fn clear_operands(step: Step) -> Hints
     ensures { result ≡ clear_operands step }
 {
     let block = compares_words(step);
-    if clears_operands(step.op) & ((step.op != EQ) | (block == 1)) {
-        let first = step.first;
-        let second = step.second;
-        let first_label = first.label;
-        let second_label = second.label;
+    if clears_operands(step.op) & ((step.op != EQ) | block) {
         return both(
-            clear_operand(first_label, block),
-            clear_operand(second_label, block),
+            clear_operand(step.first.label, block),
+            clear_operand(step.second.label, block),
         );
     }
     both(Operation::Nothing, Operation::Nothing)

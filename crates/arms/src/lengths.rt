@@ -3,27 +3,26 @@ ghost use Rattle.std.specs.Prelude.{◌≡◌, ◌*◌, ◌≤◌};
 ghost use Rattle.std.specs.Option.{ForSome};
 ghost use Rattle.limits.specs.Limits.{word_bytes, array_count_max};
 ghost use Rattle.word.specs.Value.{value_of};
-ghost use Rattle.facts.specs.State.{nodes};
+ghost use Rattle.paths.specs.Lent.{facts_of};
 ghost use Rattle.operations.specs.Asks.{IsUsed};
 ghost use Rattle.analyze.specs.Length.{mark_length, name_path, with_ones, multiplied, multiply, unless_range, mark_first};
 ghost use Rattle.analyze.specs.Length.{mul};
 ghost use Rattle.analyze.specs.Length.{bytes_shift, bytes_named, shl_of, shl, compares_length, length_compared, compare_with};
 ghost use Rattle.analyze.specs.Length.{compare};
-ghost use Rattle.analyze.specs.Ready.{Ready, LabelReaches, ChoiceReaches, StepReaches};
+ghost use Rattle.analyze.specs.Ready.{LabelReaches, ChoiceReaches, StepReaches};
 ghost use Rattle.word.specs.Multiplier.{multiplier_of};
 
 use crate::plans::{and_stack, mark_and_name, nothing, one_operation, three_operations};
 use analyze::{InMemory, OnStack, Plan};
 use code::guard_failure_pc;
-use facts::field;
 use labels::{Choice, Label, Pattern, Step, Val, choose, is_length, is_unmasked_length};
 use limits::WORD_BYTES;
 use limits::codes::{BYTES, FIXED_BYTES, STRING};
 use limits::confidences::{BY_BYTES, BY_THE_REST};
-use limits::fields::{KEY, PARENT};
 use marks::has_range_hint;
 use opcode::LT;
 use operations::Operation;
+use paths::Facts;
 use word::compare::equals_number;
 use word::multiply::read_multiplier;
 use word::power::power_of_two;
@@ -45,12 +44,12 @@ fn mark_length(path: u32, other: Label, more: Operation) -> Plan
 }
 
 // A name for a path itself, which is there.
-fn name_path(table: &[u32], n: u32, used: u32, path: u32, name: u32, confidence: u32) -> Operation
-    requires { Ready table.now used n × IsUsed used path }
-    ensures { result ≡ name_path (nodes table.now used) path name confidence }
+fn name_path(facts: &Facts, path: u32, name: u32, confidence: u32) -> Operation
+    requires { IsUsed facts.now.used path }
+    ensures { result ≡ name_path (facts_of facts.now) path name confidence }
 {
-    let parent = field(table, path, PARENT);
-    let key = field(table, path, KEY);
+    let parent = facts.parent(path);
+    let key = facts.key(path);
     Operation::SetTname(parent, key, name, confidence)
 }
 
@@ -75,20 +74,20 @@ fn multiplier_of(count: u32) -> u32
 }
 
 // What a factor says of the path.
-fn multiplied(table: &[u32], n: u32, used: u32, path: u32, other: Label, factor: U256) -> Plan
-    requires { Ready table.now used n × IsUsed used path }
-    ensures { result ≡ multiplied (nodes table.now used) path other (multiplier_of (value_of factor)) }
+fn multiplied(facts: &Facts, path: u32, other: Label, factor: U256) -> Plan
+    requires { IsUsed facts.now.used path }
+    ensures { result ≡ multiplied (facts_of facts.now) path other (multiplier_of (value_of factor)) }
 {
     match read_multiplier(factor) {
         Multiplier::One => mark_length(
             path,
             other,
-            name_path(table, n, used, path, BYTES, BY_BYTES),
+            name_path(facts, path, BYTES, BY_BYTES),
         ),
         Multiplier::Two => mark_length(
             path,
             other,
-            name_path(table, n, used, path, STRING, BY_THE_REST),
+            name_path(facts, path, STRING, BY_THE_REST),
         ),
         Multiplier::Array(count) => {
             let marked = mark_length(path, other, Operation::SetArray(path, count));
@@ -100,54 +99,54 @@ fn multiplied(table: &[u32], n: u32, used: u32, path: u32, other: Label, factor:
 
 // The length at a path multiplied by a factor, beside the other operand's label.
 #[tactic(auto, unfolding(analyze::specs::Length::multiply))]
-fn multiply(table: &[u32], n: u32, used: u32, path: u32, other: Label, factor: U256) -> Plan
-    requires { Ready table.now used n × IsUsed used path }
-    ensures { result ≡ multiply (nodes table.now used) path other (value_of factor) }
+fn multiply(facts: &Facts, path: u32, other: Label, factor: U256) -> Plan
+    requires { IsUsed facts.now.used path }
+    ensures { result ≡ multiply (facts_of facts.now) path other (value_of factor) }
 {
     if path == 1 {
         return mark_length(path, other, Operation::Nothing);
     }
-    multiplied(table, n, used, path, other, factor)
+    multiplied(facts, path, other, factor)
 }
 
 // Marks it, unless it has a range name: a validated enum can be checked again, e.g. before a panic.
 #[tactic(auto, unfolding(analyze::specs::Length::unless_range))]
-fn unless_range(table: &[u32], n: u32, used: u32, val: Val) -> Plan
-    requires { Ready table.now used n × IsUsed used val.path }
-    ensures { result ≡ unless_range (nodes table.now used) val }
+fn unless_range(facts: &Facts, val: Val) -> Plan
+    requires { IsUsed facts.now.used val.path }
+    ensures { result ≡ unless_range (facts_of facts.now) val }
 {
-    if has_range_hint(table, n, used, val.path, val.offset) {
+    if has_range_hint(facts, val.path, val.offset) {
         return nothing();
     }
     one_operation(Operation::MarkNotBool(val.path, val.offset))
 }
 
 // The general arm of LT, GT and MUL.
-fn mark_first(table: &[u32], n: u32, used: u32, choice: Choice) -> Plan
-    requires { Ready table.now used n × ChoiceReaches used choice }
-    ensures { result ≡ mark_first (nodes table.now used) choice }
+fn mark_first(facts: &Facts, choice: Choice) -> Plan
+    requires { ChoiceReaches facts.now.used choice }
+    ensures { result ≡ mark_first (facts_of facts.now) choice }
 {
     let Choice::Chosen(val, _, _) = choice else {
         return nothing();
     };
-    unless_range(table, n, used, val)
+    unless_range(facts, val)
 }
 
 #[tactic(auto, unfolding(analyze::specs::Length::mul))]
-pub fn mul(table: &[u32], n: u32, used: u32, step: Step) -> Plan
-    requires { Ready table.now used n × StepReaches used step }
-    ensures { result ≡ mul (nodes table.now used) step }
+pub fn mul(facts: &Facts, step: Step) -> Plan
+    requires { StepReaches facts.now.used step }
+    ensures { result ≡ mul (facts_of facts.now) step }
 {
     let first = step.first;
     let second = step.second;
     let length = choose(Pattern::Length, first, second);
     let Choice::Chosen(val, _, other) = length else {
         let any = choose(Pattern::Any, first, second);
-        return mark_first(table, n, used, any);
+        return mark_first(facts, any);
     };
     let label = other.label;
     let word = other.word;
-    multiply(table, n, used, val.path, label, word)
+    multiply(facts, val.path, label, word)
 }
 
 // The bytes that a guarded shift leaves of a word, if it is such a check.
@@ -176,9 +175,9 @@ fn bytes_named(val: Val, bytes: Option<u32>) -> Plan
 }
 
 #[tactic(auto, unfolding(analyze::specs::Length::shl, analyze::specs::Length::shl_of))]
-pub fn shl(table: &[u32], n: u32, used: u32, active: bool, code: &[u8], step: Step) -> Plan
-    requires { Ready table.now used n × StepReaches used step }
-    ensures { result ≡ shl (nodes table.now used) active code.now step }
+pub fn shl(facts: &Facts, active: bool, code: &[u8], step: Step) -> Plan
+    requires { StepReaches facts.now.used step }
+    ensures { result ≡ shl (facts_of facts.now) active code.now step }
 {
     let second = step.second;
     let label = second.label;
@@ -194,7 +193,7 @@ pub fn shl(table: &[u32], n: u32, used: u32, active: bool, code: &[u8], step: St
         return nothing();
     }
     let other = first.label;
-    multiply(table, n, used, val.path, other, power_of_two(word))
+    multiply(facts, val.path, other, power_of_two(word))
 }
 
 // Is it compared with 0, or with 31, as a string for storage is?
@@ -218,30 +217,28 @@ fn length_compared(path: u32, bound: U256) -> Plan
 // The length arm for that operand and bound, else the general arm.
 #[tactic(auto, unfolding(analyze::specs::Length::compare_with))]
 fn compare_with(
-    table: &[u32],
-    n: u32,
-    used: u32,
+    facts: &Facts,
     label: Label,
     bound: U256,
     general: Choice,
 ) -> Plan
-    requires { Ready table.now used n × ChoiceReaches used general }
-    ensures { result ≡ compare_with (nodes table.now used) label (value_of bound) general }
+    requires { ChoiceReaches facts.now.used general }
+    ensures { result ≡ compare_with (facts_of facts.now) label (value_of bound) general }
 {
     let Label::Arg(val) = label else {
-        return mark_first(table, n, used, general);
+        return mark_first(facts, general);
     };
     if is_unmasked_length(val) {
         return length_compared(val.path, bound);
     }
-    mark_first(table, n, used, general)
+    mark_first(facts, general)
 }
 
 // LT and GT, behind the range rule.
 #[tactic(auto, unfolding(analyze::specs::Length::compare))]
-pub fn compare(table: &[u32], n: u32, used: u32, step: Step) -> Plan
-    requires { Ready table.now used n × StepReaches used step }
-    ensures { result ≡ compare (nodes table.now used) step }
+pub fn compare(facts: &Facts, step: Step) -> Plan
+    requires { StepReaches facts.now.used step }
+    ensures { result ≡ compare (facts_of facts.now) step }
 {
     let first = step.first;
     let second = step.second;
@@ -250,8 +247,8 @@ pub fn compare(table: &[u32], n: u32, used: u32, step: Step) -> Plan
     let second_label = second.label;
     if step.op == LT {
         let bound = first.word;
-        return compare_with(table, n, used, second_label, bound, general);
+        return compare_with(facts, second_label, bound, general);
     }
     let bound = second.word;
-    compare_with(table, n, used, first_label, bound, general)
+    compare_with(facts, first_label, bound, general)
 }

@@ -1,12 +1,12 @@
 // CALLDATALOAD and CALLDATACOPY.
 ghost use Rattle.std.specs.Prelude.{◌≡◌, true};
 ghost use Rattle.word.specs.Value.{value_of};
-ghost use Rattle.facts.specs.State.{nodes};
+ghost use Rattle.paths.specs.Lent.{facts_of};
 ghost use Rattle.operations.specs.Asks.{IsUsed};
 ghost use Rattle.analyze.specs.Plan.{loaded_arg};
 ghost use Rattle.analyze.specs.Load.{is_whole_word, new_offset, name_copied, followed, labelled_load, found, unlabelled_load};
 ghost use Rattle.analyze.specs.Load.{load};
-ghost use Rattle.analyze.specs.Ready.{Ready, StepReaches};
+ghost use Rattle.analyze.specs.Ready.{StepReaches};
 
 use crate::plans::{and_memory, and_stack, nothing};
 use analyze::{InMemory, OnStack, Plan};
@@ -17,6 +17,7 @@ use limits::confidences::BY_BYTES;
 use limits::{LOAD_MAX, SELECTOR_BYTES, WORD_BYTES};
 use opcode::CALLDATALOAD;
 use operations::Operation;
+use paths::Facts;
 use word::U256;
 use word::sum::keep;
 
@@ -46,16 +47,16 @@ fn is_whole_word(added: u32) -> bool
 // The offset from the full path: a word is taken off for each array on the label's path, whose length stands before its
 // elements.
 #[tactic(auto, unfolding(analyze::specs::Load::new_offset))]
-fn new_offset(table: &[u32], n: u32, used: u32, val: Val) -> u32
-    requires ready { Ready table.now used n × IsUsed used val.path }
+fn new_offset(facts: &Facts, val: Val) -> u32
+    requires ready { IsUsed facts.now.used val.path }
     requires add_val_value { is_whole_word val.add_val ≡ true }
-    ensures { result ≡ new_offset (nodes table.now used) val }
+    ensures { result ≡ new_offset (facts_of facts.now) val }
 {
     let behind = val.add_val - SELECTOR_BYTES;
     if behind == 0 {
         return behind;
     }
-    let off = WORD_BYTES * arrays_in_path(table, n, used, val.path);
+    let off = WORD_BYTES * arrays_in_path(facts, val.path);
     if behind < off {
         return behind;
     }
@@ -89,12 +90,12 @@ fn followed(step: Step, val: Val, offset: u32) -> Plan
 }
 
 #[tactic(auto, unfolding(analyze::specs::Load::labelled_load))]
-fn labelled_load(table: &[u32], n: u32, used: u32, step: Step, val: Val) -> Plan
-    requires { Ready table.now used n × IsUsed used val.path }
-    ensures { result ≡ labelled_load (nodes table.now used) step val }
+fn labelled_load(facts: &Facts, step: Step, val: Val) -> Plan
+    requires { IsUsed facts.now.used val.path }
+    ensures { result ≡ labelled_load (facts_of facts.now) step val }
 {
     if is_whole_word(val.add_val) {
-        return followed(step, val, new_offset(table, n, used, val));
+        return followed(step, val, new_offset(facts, val));
     }
     nothing()
 }
@@ -128,14 +129,14 @@ fn unlabelled_load(step: Step, word: U256) -> Plan
 }
 
 #[tactic(auto, unfolding(analyze::specs::Load::load))]
-pub fn load(table: &[u32], n: u32, used: u32, step: Step) -> Plan
-    requires { Ready table.now used n × StepReaches used step }
-    ensures { result ≡ load (nodes table.now used) step }
+pub fn load(facts: &Facts, step: Step) -> Plan
+    requires { StepReaches facts.now.used step }
+    ensures { result ≡ load (facts_of facts.now) step }
 {
     let first = step.first;
     let label = first.label;
     let Label::Arg(val) = label else {
         return unlabelled_load(step, first.word);
     };
-    labelled_load(table, n, used, step, val)
+    labelled_load(facts, step, val)
 }

@@ -1,17 +1,17 @@
 // ADD.
 ghost use Rattle.std.specs.Prelude.{◌≡◌, ◌+◌};
 ghost use Rattle.word.specs.Kept.{kept_of};
-ghost use Rattle.facts.specs.State.{nodes};
+ghost use Rattle.paths.specs.Lent.{facts_of};
 ghost use Rattle.operations.specs.Asks.{IsUsed};
 ghost use Rattle.analyze.specs.Sum.{with_added, winner, kept_label, add_both, is_less_one, zero_beside, add_constant, add_one};
 ghost use Rattle.analyze.specs.Sum.{add};
-ghost use Rattle.analyze.specs.Ready.{Ready, StepReaches};
+ghost use Rattle.analyze.specs.Ready.{StepReaches};
 
 use crate::plans::{and_stack, nothing};
 use analyze::{OnStack, Plan};
 use labels::{Choice, Label, Pattern, Step, Val, choose, is_length};
 use operations::Operation;
-use paths::depth_of;
+use paths::Facts;
 use word::U256;
 use word::compare::{is_max, is_zero};
 use word::sum::add_kept;
@@ -46,11 +46,11 @@ fn add_values(a: u32, b: u32) -> Option<u32>
 
 // The label with the longer path; at equal length the second.
 #[tactic(auto, unfolding(analyze::specs::Sum::winner))]
-fn longer(table: &[u32], n: u32, used: u32, f: Val, g: Val) -> Val
-    requires { Ready table.now used n × IsUsed used f.path × IsUsed used g.path }
-    ensures { result ≡ winner (nodes table.now used) f g }
+fn longer(facts: &Facts, f: Val, g: Val) -> Val
+    requires { IsUsed facts.now.used f.path × IsUsed facts.now.used g.path }
+    ensures { result ≡ winner (facts_of facts.now) f g }
 {
-    if depth_of(table, n, used, g.path) < depth_of(table, n, used, f.path) {
+    if facts.depth_of(g.path) < facts.depth_of(f.path) {
         return f;
     }
     g
@@ -58,11 +58,11 @@ fn longer(table: &[u32], n: u32, used: u32, f: Val, g: Val) -> Val
 
 // Both operands are arguments.
 #[tactic(auto, unfolding(analyze::specs::Sum::add_both))]
-fn add_both(table: &[u32], n: u32, used: u32, f: Val, g: Val) -> Plan
-    requires { Ready table.now used n × IsUsed used f.path × IsUsed used g.path }
-    ensures { result ≡ add_both (nodes table.now used) f g }
+fn add_both(facts: &Facts, f: Val, g: Val) -> Plan
+    requires { IsUsed facts.now.used f.path × IsUsed facts.now.used g.path }
+    ensures { result ≡ add_both (facts_of facts.now) f g }
 {
-    let top = longer(table, n, used, f, g);
+    let top = longer(facts, f, g);
     and_stack(
         Operation::MarkNotBool(f.path, f.offset),
         Operation::MarkNotBool(g.path, g.offset),
@@ -115,9 +115,9 @@ fn add_one(choice: Choice) -> Plan
 }
 
 #[tactic(auto, unfolding(analyze::specs::Sum::add))]
-pub fn add(table: &[u32], n: u32, used: u32, step: Step) -> Plan
-    requires { Ready table.now used n × StepReaches used step }
-    ensures { result ≡ add (nodes table.now used) step }
+pub fn add(facts: &Facts, step: Step) -> Plan
+    requires { StepReaches facts.now.used step }
+    ensures { result ≡ add (facts_of facts.now) step }
 {
     let first = step.first;
     let second = step.second;
@@ -130,5 +130,5 @@ pub fn add(table: &[u32], n: u32, used: u32, step: Step) -> Plan
     let Label::Arg(g) = second_label else {
         return add_one(choice);
     };
-    add_both(table, n, used, f, g)
+    add_both(facts, f, g)
 }
