@@ -7,15 +7,13 @@ use lib.Dec.{eqb}
 use Rattle.limits.specs.Refusal.{taken, number_of}
 use Rattle.limits.specs.declared.refusal.Refusal.{Refusal}
 use Rattle.limits.proofs.Refusals.{not_taken}
-use Rattle.head.specs.declared.Admitted.{Admitted}
-use Rattle.head.specs.declared.Admitted.TheVariants.{Refused}
 use Rattle.head.specs.Asked.{first_no, FirstNo}
 use Rattle.head.specs.Admitting.{Admits, AdmittedBy}
 use Rattle.head.proofs.Asking.{sound_asked, refused_so}
+use Rattle.std.specs.Prelude.{Ok, Err}
+use Rattle.std.specs.declared.result.Result.{Result}
 use Rattle.step.specs.declared.Planned.{Planned}
-use Rattle.step.specs.declared.Decision.{Decision}
-use Rattle.step.specs.declared.Decision.TheVariants.{Accepted}
-use Rattle.step.specs.declared.Decision.TheVariants as no
+
 use Rattle.step.specs.Decide.{Accepts, Decides}
 use Rattle.step.specs.Call.{Lent, effect, questions, tests_of, Outcome}
 
@@ -23,7 +21,7 @@ module _ (l : Lent) (bytes x : List ℕ) where
   pub refused : (k : ℕ) → eqb k taken ≡ false → FirstNo (questions l bytes x) k → Outcome l bytes x k l
   refused k z f = record { asked = f; leaves = ap (λ (b : Bool). cond b (effect l bytes x) l) (sym z) }
 
-  pub not_admitted : (a : Admitted) → AdmittedBy l.held a → (r : Refusal) → a ≡ Refused r
+  pub not_admitted : (a : Result ℕ Refusal) → AdmittedBy l.held a → (r : Refusal) → a ≡ Err r
       → Outcome l bytes x (number_of r) l
   not_admitted a is r e = refused (number_of r) (not_taken r) (refused_so l.held a is (tests_of l bytes x) r e)
 
@@ -33,9 +31,9 @@ module _ (l : Lent) (bytes x : List ℕ) where
   refused_by N k A z e = refused k z (sound_asked l.held (tests_of l bytes x) N k A (sym e))
 
 -- what was decided
-module _ (N : ℕ) (l : Lent) (bytes x : List ℕ) (d : Decision) (D : Decides N l bytes x d) where
-  pub accepts_so : (p : Planned) → d ≡ Accepted p → Accepts N l bytes x p
+module _ (N : ℕ) (l : Lent) (bytes x : List ℕ) (d : Result Planned Refusal) (D : Decides N l bytes x d) where
+  pub accepts_so : (p : Planned) → d ≡ Ok p → Accepts N l bytes x p
   accepts_so p e = subst (Decides N l bytes x) e D
 
-  pub refuses_so : (r : Refusal) → d ≡ no.Refused r → Outcome l bytes x (number_of r) l
+  pub refuses_so : (r : Refusal) → d ≡ Err r → Outcome l bytes x (number_of r) l
   refuses_so r e = subst (Decides N l bytes x) e D

@@ -1,9 +1,7 @@
-pub mod Asking
-pub mod Turns
-pub mod Written
 pub mod Labelled
 pub mod Arriving
 pub mod Refusing
 pub mod Planning
-pub mod Taking
+
 pub mod Outcomes
+pub mod Taking

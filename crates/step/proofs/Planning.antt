@@ -19,20 +19,20 @@ use Rattle.operations.specs.Run.{run_all}
 use Rattle.operations.specs.Asks.{Reaches}
 use Rattle.head.specs.declared.Head.{Head}
 use Rattle.head.specs.Held.{held, records_in}
-use Rattle.head.proofs.Asking.{admitted_count, admitted_sound}
+use Rattle.head.proofs.Asking.{admitted_sound}
 use Rattle.analyze.specs.declared.Plan.{Plan}
 use Rattle.analyze.specs.declared.Hints.{Hints}
 use Rattle.analyze.specs.Plan.{operations}
 use Rattle.analyze.specs.Phases.{hints_of, active_after}
 use Rattle.analyze.specs.Analyze.{plan_of}
-use Rattle.analyze.specs.Ready.{Ready, StepReaches, PlanReaches}
+use Rattle.analyze.specs.Ready.{StepReaches, PlanReaches}
 use Rattle.analyze.proofs.Plans.{plan_reaches}
 use Rattle.analyze.proofs.Stepping.{analyze_room}
 use Rattle.step.specs.Questions.{room_there, step_tests}
 use Rattle.step.specs.Call.{Lent, lend, machine_of, is_active, Outcome}
 use Rattle.step.specs.Decide.{Passed, Accepts}
 use Rattle.step.proofs.Labelled.{step_reaches}
-use Rattle.step.proofs.Refusing.{no, yes, fit_width, fit_op}
+use Rattle.step.proofs.Refusing.{fit_width, fit_op}
 use Rattle.step.proofs.Arriving.{refused_by}
 
 module _ (N : ℕ) (head : Head) (table stack memory bytes x : List ℕ) (P : Passed N (lend (held head table) stack memory) bytes x) where
@@ -45,17 +45,11 @@ module _ (N : ℕ) (head : Head) (table stack memory bytes x : List ℕ) (P : Pa
   abbrev state : List Node
   state = nodes table head.used
 
-  pub read_asks : (length x ≡ step_width) × (get_or x step_op 0 ≤ 255)
-  read_asks = (fit_width stack memory x P.sizes, fit_op memory x P.fields)
-
-  pub passed_ready : Ready table head.used N
-  passed_ready = record {
-    shaped = sound_shaped table head.used N (admitted_sound (held head table) N P.admitted);
-    small = (admitted_count (held head table) N P.admitted).most;
-  }
+  pub passed_shaped : Shaped table head.used N
+  passed_shaped = sound_shaped table head.used N (admitted_sound (held head table) N P.admitted)
 
   pub passed_ordered : Ordered state
-  passed_ordered = shaped_ordered table head.used N passed_ready.shaped
+  passed_ordered = shaped_ordered table head.used N passed_shaped
 
   pub passed_reaches : StepReaches head.used (step_of x)
   passed_reaches = step_reaches head.used stack memory x P.labels
@@ -70,18 +64,15 @@ module _ (N : ℕ) (head : Head) (table stack memory bytes x : List ℕ) (P : Pa
       (plan_reaches state passed_ordered (step_of x) facts_reach active bytes)
 
   module _ (s : Step) (es : s ≡ step_of x) where
-    pub plan_asks : Ready table head.used N × StepReaches head.used s
-    plan_asks = (passed_ready, subst (λ (z : Step). StepReaches head.used z) (sym es) passed_reaches)
+    pub plan_asks : StepReaches head.used s
+    plan_asks = subst (λ (z : Step). StepReaches head.used z) (sym es) passed_reaches
 
     module _ (p : Plan) (ep : p ≡ plan_of state active bytes s) where
       plan_is : p ≡ plan_of state active bytes (step_of x)
       plan_is = ep ∙ ap (plan_of state active bytes) es
 
-      pub room_asks : Shaped table head.used N
-          × (Reaches head.used p.first × Reaches head.used p.second × Reaches head.used p.third)
-      room_asks =
-          let R = subst (PlanReaches head.used) (sym plan_is) passed_plan in
-          (passed_ready.shaped, (R.first, R.second, R.third))
+      pub room_asks : Reaches head.used p.first × Reaches head.used p.second × Reaches head.used p.third
+      room_asks = let R = subst (PlanReaches head.used) (sym plan_is) passed_plan in (R.first, R.second, R.third)
 
       module _ (b : Bool) (room : b ≡ leb (length (run_all state (operations p))) N) where
         room_is : b ≡ room_there (records_in (held head table)) (machine_of l) active bytes x
@@ -91,18 +82,18 @@ module _ (N : ℕ) (head : Head) (table stack memory bytes x : List ℕ) (P : Pa
             ∙ ap (λ (n : ℕ). leb n (records_in (held head table)))
             (sym (analyze_room (machine_of l) active bytes (step_of x) passed_ordered facts_reach))
 
-        pub no_room : not b ≡ true → Outcome l bytes x 8 l
+        pub no_room : b ≡ false → Outcome l bytes x 8 l
         unfolding step_tests
         no_room q =
             refused_by l bytes x N 8 P.admitted refl
-            (simp (P.code, P.sizes, length_nodes table head.used, P.labels, P.fields, P.slot, no b _ room_is q))
+            (simp (P.code, P.sizes, length_nodes table head.used, P.labels, P.fields, P.slot, sym room_is ∙ q))
 
-        pub accepted : not b ≡ false → (h : Hints) → h ≡ hints_of active s → (ends : Bool) → ends ≡ listed s.op decoder_enders
+        pub accepted : b ≡ true → (h : Hints) → h ≡ hints_of active s → (ends : Bool) → ends ≡ listed s.op decoder_enders
             → Accepts N l bytes x (record { hints = h; plan = p; active = active && not ends })
         unfolding active_after
         accepted q h eh ends ee = record {
           passed = P;
-          room = yes b _ room_is q;
+          room = sym room_is ∙ q;
           hints = eh ∙ ap (hints_of active) es;
           plan = plan_is;
           active = ap (λ (e : Bool). active && not e) (ee ∙ ap (λ (z : Step). listed z.op decoder_enders) es);

@@ -2,11 +2,11 @@
 -- passed.
 use Prim.Native.Nat.{ℕ, ◌/◌, ◌≤◌, ◌<◌}
 use mathlib.Core.Path.{◌≡◌, refl, sym, ◌∙◌}
-use mathlib.Core.Bool.{Bool, true, false, not, ◌&&◌, and-eq-true_iff}
+use mathlib.Core.Bool.{Bool, true, false, ◌&&◌, and-eq-true_iff}
 use mathlib.Core.List.{List}
 use lib.Dec.{eqb, leb}
 use lib.ListN.{length, get_or}
-use borrow.Author.Tests.{le-leb, lt-leb, leb-true, eqb-true, not-true, not-false}
+use borrow.Author.Tests.{le-leb, lt-leb, leb-true, eqb-true}
 use Rattle.limits.specs.Limits.{code_max, slots_max, entries_max}
 use Rattle.limits.specs.Layout.{slot_width, entry_width, step_width, step_op, step_pick, step_load_flag, step_load, step_second}
 use Rattle.word.specs.Numbers.{word_at}
@@ -20,13 +20,6 @@ use Rattle.step.specs.Questions.{step_tests}
 use Rattle.step.specs.Call.{Lent, lend, Outcome}
 use Rattle.step.specs.Decide.{Passed}
 use Rattle.step.proofs.Arriving.{refused_by}
-
--- a test that the code has negated
-pub no : (b t : Bool) → b ≡ t → not b ≡ true → t ≡ false
-no b t e q = sym e ∙ not-true b q
-
-pub yes : (b t : Bool) → b ≡ t → not b ≡ false → t ≡ true
-yes b t e q = sym e ∙ not-false b q
 
 -- what the sizes and the fields say
 pub fit_width : (stack memory x : List ℕ) → sizes_fit stack memory x ≡ true → length x ≡ step_width
@@ -70,48 +63,48 @@ module _ (N : ℕ) (head : Head) (table stack memory bytes x : List ℕ) (A : Ad
     code_fits_lem : code_fits bytes ≡ true
     code_fits_lem = le-leb (length bytes) code_max c
 
-    pub broken_sizes : not sizes ≡ true → Outcome l bytes x 4 l
+    pub broken_sizes : sizes ≡ false → Outcome l bytes x 4 l
     unfolding step_tests
-    broken_sizes q = refused_by l bytes x N 4 A refl (simp (code_fits_lem, no sizes _ es q))
+    broken_sizes q = refused_by l bytes x N 4 A refl (simp (code_fits_lem, sym es ∙ q))
 
-    module _ (qs : not sizes ≡ false) where
+    module _ (qs : sizes ≡ true) where
       sizes_fit_lem : sizes_fit stack memory x ≡ true
-      sizes_fit_lem = yes sizes _ es qs
+      sizes_fit_lem = sym es ∙ qs
 
       module _ (labels : Bool) (el : labels ≡ labels_fit head.used stack memory x) where
-        pub broken_labels : not labels ≡ true → Outcome l bytes x 5 l
+        pub broken_labels : labels ≡ false → Outcome l bytes x 5 l
         unfolding step_tests
         broken_labels q =
             refused_by l bytes x N 5 A refl
-            (simp (code_fits_lem, sizes_fit_lem, length_nodes table head.used, no labels _ el q))
+            (simp (code_fits_lem, sizes_fit_lem, length_nodes table head.used, sym el ∙ q))
 
-        module _ (ql : not labels ≡ false) (fields : Bool) (ef : fields ≡ fields_fit memory x) where
+        module _ (ql : labels ≡ true) (fields : Bool) (ef : fields ≡ fields_fit memory x) where
           labels_fit_lem : labels_fit head.used stack memory x ≡ true
-          labels_fit_lem = yes labels _ el ql
+          labels_fit_lem = sym el ∙ ql
 
-          pub broken_fields : not fields ≡ true → Outcome l bytes x 6 l
+          pub broken_fields : fields ≡ false → Outcome l bytes x 6 l
           unfolding step_tests
           broken_fields q =
               refused_by l bytes x N 6 A refl
-              (simp (code_fits_lem, sizes_fit_lem, length_nodes table head.used, labels_fit_lem, no fields _ ef q))
+              (simp (code_fits_lem, sizes_fit_lem, length_nodes table head.used, labels_fit_lem, sym ef ∙ q))
 
-          module _ (qf : not fields ≡ false) where
+          module _ (qf : fields ≡ true) where
             fields_fit_lem : fields_fit memory x ≡ true
-            fields_fit_lem = yes fields _ ef qf
+            fields_fit_lem = sym ef ∙ qf
 
             module _ (slot : Bool) (et : slot ≡ slot_there stack (get_or x step_op 0)) where
-              pub no_slot : not slot ≡ true → Outcome l bytes x 7 l
+              pub no_slot : slot ≡ false → Outcome l bytes x 7 l
               unfolding step_tests
               no_slot q =
                   refused_by l bytes x N 7 A refl
-                  (simp (code_fits_lem, sizes_fit_lem, length_nodes table head.used, labels_fit_lem, fields_fit_lem, no slot _ et q))
+                  (simp (code_fits_lem, sizes_fit_lem, length_nodes table head.used, labels_fit_lem, fields_fit_lem, sym et ∙ q))
 
-              pub has_passed : not slot ≡ false → Passed N l bytes x
+              pub has_passed : slot ≡ true → Passed N l bytes x
               has_passed q = record {
                 admitted = A;
                 code = code_fits_lem;
                 sizes = sizes_fit_lem;
                 labels = labels_fit_lem;
                 fields = fields_fit_lem;
-                slot = yes slot _ et q;
+                slot = sym et ∙ q;
               }

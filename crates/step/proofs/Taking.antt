@@ -11,7 +11,8 @@ use borrow.Author.Tests.{leb-true}
 use Rattle.limits.specs.Layout.{slot_width, entry_width, step_op, step_pick}
 use Rattle.facts.specs.State.{Node, nodes, encode}
 use Rattle.facts.proofs.Encode.{length_nodes}
-use Rattle.paths.specs.Represents.{Represents}
+use Rattle.paths.specs.declared.lent.Facts.{Facts}
+use Rattle.paths.specs.Lent.{facts_of, Grows}
 use Rattle.paths.proofs.Frame.{shaped_encode}
 use Rattle.opcode.specs.Lists.{listed, slot_needers}
 use Rattle.labels.specs.Step.{step_of}
@@ -28,7 +29,7 @@ use Rattle.analyze.specs.declared.Hints.{Hints}
 use Rattle.analyze.specs.Plan.{hint_operations, operations, loaded_path, is_array, write_stack, write_memory}
 use Rattle.analyze.specs.Phases.{active_after}
 use Rattle.analyze.specs.Analyze.{Machine, hinted, run_plan, analyze}
-use Rattle.analyze.specs.Ready.{Ready, HintsReach, PlanReaches}
+use Rattle.analyze.specs.Ready.{HintsReach, PlanReaches}
 use Rattle.analyze.proofs.Proper.{Picks}
 use Rattle.analyze.proofs.Phasing.{hints_reach}
 use Rattle.analyze.proofs.Writes.{plan_stack, plan_picks}
@@ -40,7 +41,7 @@ use Rattle.step.specs.Questions.{room_there, slot_there, step_tests}
 use Rattle.step.specs.Call.{Lent, lend, machine_of, is_active, effect, tests_of, Outcome}
 use Rattle.step.specs.Decide.{RanPlan, StackFits, MemoryFits, Accepts}
 use Rattle.step.proofs.Refusing.{fit_pick}
-use Rattle.step.proofs.Planning.{passed_ready, passed_ordered, facts_reach, passed_reaches, passed_plan}
+use Rattle.step.proofs.Planning.{passed_shaped, passed_ordered, facts_reach, passed_reaches, passed_plan}
 
 slot_needed : (s : List ℕ) (op : ℕ) → slot_there s op ≡ true → listed op slot_needers ≡ true → slot_width ≤ length s
 unfolding slot_there
@@ -93,16 +94,14 @@ module _ (N : ℕ) (head : Head) (table stack memory bytes x : List ℕ) (p : Pl
   cleared_size : length (run_all state (hint_operations p.hints)) ≡ head.used
   cleared_size = ap (λ (s : List Node). length s) cleared_is ∙ hinted_size state active (step_of x) ∙ length_nodes table head.used
 
-  pub hints_asks : (Ready table head.used N × HintsReach head.used p.hints) × (length (run_all state (hint_operations p.hints)) ≤ N)
-  hints_asks =
-      let R = passed_ready N head table stack memory bytes x A.passed in (
-        (
-          R,
-          subst (HintsReach head.used) (sym A.hints)
-              (hints_reach head.used active (step_of x) (passed_reaches N head table stack memory bytes x A.passed)),
-        ),
-        let m = R.shaped.most in let e = cleared_size in omega arith,
-      )
+  pub hints_reach_lem : HintsReach head.used p.hints
+  hints_reach_lem =
+      subst (HintsReach head.used) (sym A.hints)
+      (hints_reach head.used active (step_of x) (passed_reaches N head table stack memory bytes x A.passed))
+
+  pub hints_room : length (run_all state (hint_operations p.hints)) ≤ N
+  hints_room =
+      let m = (passed_shaped N head table stack memory bytes x A.passed).most in let e = cleared_size in omega arith
 
   facts_after : after.state ≡ run_all cleared (operations p.plan)
   facts_after = analyze_facts (machine_of l) active bytes (step_of x) ∙ ap (λ (q : Plan). run_all cleared (operations q)) (sym A.plan)
@@ -112,25 +111,25 @@ module _ (N : ℕ) (head : Head) (table stack memory bytes x : List ℕ) (p : Pl
   fits_after = let h = leb-true (length after.state) (records_in (held head table)) A.room in let e = A.passed.admitted.is in omega arith
 
   -- the hints cleared
-  module _ (table₁ : List ℕ) (used₁ : ℕ) (H : Represents table₁ used₁ N (run_all state (hint_operations p.hints))) where
-    used_same : used₁ ≡ head.used
-    used_same = sym (length_nodes table₁ used₁) ∙ ap (λ (s : List Node). length s) H.state ∙ cleared_size
+  module _ (f f₁ : Facts) (H : Grows f f₁ (run_all state (hint_operations p.hints))) (records_are : f.records ≡ N) where
+    used_same : f₁.used ≡ head.used
+    used_same = sym (length_nodes f₁.table.now f₁.used) ∙ ap (λ (s : List Node). length s) H.state ∙ cleared_size
 
-    state_is : nodes table₁ used₁ ≡ cleared
+    state_is : facts_of f₁ ≡ cleared
     state_is = H.state ∙ cleared_is
 
-    pub plan_asks : (Ready table₁ used₁ N × PlanReaches used₁ p.plan) × (length (run_all (nodes table₁ used₁) (operations p.plan)) ≤ N)
-    plan_asks = (
-      (
-        record { shaped = H.shaped; small = (passed_ready N head table stack memory bytes x A.passed).small },
+    pub plan_reach : PlanReaches f₁.used p.plan
+    plan_reach =
         subst (λ (u : ℕ). PlanReaches u p.plan) (sym used_same)
-            (subst (PlanReaches head.used) (sym A.plan) (passed_plan N head table stack memory bytes x A.passed)),
-      ),
-      let e = ap (λ (s : List Node). length (run_all s (operations p.plan))) state_is in
-          let f = ap (λ (s : List Node). length s) facts_after in
-          let h = fits_after in
-          omega arith,
-    )
+        (subst (PlanReaches head.used) (sym A.plan) (passed_plan N head table stack memory bytes x A.passed))
+
+    pub plan_room : length (run_all (facts_of f₁) (operations p.plan)) ≤ f₁.records
+    plan_room =
+        let e = ap (λ (s : List Node). length (run_all s (operations p.plan))) state_is in
+        let g = ap (λ (s : List Node). length s) facts_after in
+        let h = fits_after in
+        let r = H.same.records in let n = records_are in
+        omega arith
 
     -- what is written has its slot and its entry
     pub stack_asks : StackFits p.plan.stack stack
@@ -150,7 +149,7 @@ module _ (N : ℕ) (head : Head) (table stack memory bytes x : List ℕ) (p : Pl
         memory_fits p.plan.memory memory (step_of x).pick
         (subst (λ (q : Plan). Picks (step_of x).pick q.memory) (sym A.plan) k) (omega arith)
 
-    module _ (table₂ : List ℕ) (r : Ran) (Q : RanPlan (nodes table₁ used₁) p.plan table₂ r N) where
+    module _ (f₂ : Facts) (r : Ran) (Q : RanPlan f₁ f₂ p.plan r) where
       abbrev left : Machine
       left = run_plan cleared p.plan stack memory
 
@@ -159,9 +158,9 @@ module _ (N : ℕ) (head : Head) (table stack memory bytes x : List ℕ) (p : Pl
       unfolding analyze
       left_is = ap (λ (q : Plan). run_plan cleared q stack memory) (A.plan ∙ sym (hinted_plan state active bytes (step_of x)))
 
-      facts_left : nodes table₂ r.used ≡ left.state
+      facts_left : facts_of f₂ ≡ left.state
       unfolding run_plan
-      facts_left = Q.holds.state ∙ ap (λ (s : List Node). run_all s (operations p.plan)) state_is
+      facts_left = Q.grows.state ∙ ap (λ (s : List Node). run_all s (operations p.plan)) state_is
 
       path_is : r.path ≡ loaded_path cleared p.plan.first
       path_is = Q.path ∙ ap (λ (s : List Node). loaded_path s p.plan.first) state_is
@@ -169,10 +168,10 @@ module _ (N : ℕ) (head : Head) (table stack memory bytes x : List ℕ) (p : Pl
       array_is : r.array ≡ is_array (run_all cleared (operations p.plan)) (loaded_path cleared p.plan.first)
       array_is = Q.array ∙ (λ i. is_array (run_all (state_is i) (operations p.plan)) (path_is i))
 
-      module _ (stack' memory' : List ℕ) (active' : ℕ) (es : stack' ≡ write_stack p.plan.stack r.path r.array stack)
+      module _ (table' stack' memory' : List ℕ) (active' : ℕ) (et : table' ≡ f₂.table.now) (es : stack' ≡ write_stack p.plan.stack r.path r.array stack)
           (em : memory' ≡ write_memory p.plan.memory r.path r.array memory) (ea : active' ≡ cond p.active 1 0) where
         abbrev l' : Lent
-        l' = lend (held (record { used = r.used; active = active' }) table₂) stack' memory'
+        l' = lend (held (record { used = f₂.used; active = active' }) table') stack' memory'
 
         stack_left : stack' ≡ left.stack
         unfolding run_plan
@@ -190,24 +189,27 @@ module _ (N : ℕ) (head : Head) (table stack memory bytes x : List ℕ) (p : Pl
           memory = (memory_left ∙ ap (λ (m : Machine). m.memory) left_is) i;
         }
           where
-            f : nodes table₂ r.used ≡ after.state
-            f = facts_left ∙ ap (λ (m : Machine). m.state) left_is
+            k : facts_of f₂ ≡ after.state
+            k = facts_left ∙ ap (λ (m : Machine). m.state) left_is
 
-            u : r.used ≡ length after.state
-            u = sym (length_nodes table₂ r.used) ∙ ap (λ (s : List Node). length s) f
+            u : f₂.used ≡ length after.state
+            u = sym (length_nodes f₂.table.now f₂.used) ∙ ap (λ (s : List Node). length s) k
 
             a : active' ≡ cond (active_after active (step_of x)) 1 0
             a = ea ∙ ap (λ (b : Bool). cond b 1 0) A.active
 
-            t : table₂ ≡ encode (records_in (held head table)) after.state
-            t = shaped_encode table₂ r.used N Q.holds.shaped ∙ (λ i. encode (A.passed.admitted.is i) (f i))
+            n : f₂.records ≡ records_in (held head table)
+            n = Q.grows.same.records ∙ H.same.records ∙ records_are ∙ A.passed.admitted.is
+
+            t : table' ≡ encode (records_in (held head table)) after.state
+            t = et ∙ shaped_encode f₂.table.now f₂.used f₂.records f₂.shaped ∙ (λ i. encode (n i) (k i))
 
         pub taken : Outcome l bytes x 0 l'
         unfolding step_tests
         taken = record {
           asked =
               let P = A.passed in
-              sound_asked (held head table) (tests_of l bytes x) N 0 P.admitted
+              sound_asked l.held (tests_of l bytes x) N 0 P.admitted
               (sym (simp (P.code, P.sizes, length_nodes table head.used, P.labels, P.fields, P.slot, A.room)));
           leaves = effect_is;
         }

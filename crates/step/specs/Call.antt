@@ -1,19 +1,12 @@
 -- "A step arrives": what the call answers and leaves, for any numbers at all.
 use Rattle.std.specs.Prelude.{ℕ, ◌≡◌, Bool, cond, List, eqb}
-use Rattle.limits.specs.Refusal.{taken, number_of as refusal_number}
+use Rattle.limits.specs.Refusal.{taken}
 use Rattle.head.specs.Held.{Held, records_in, state_in, holding}
 use Rattle.head.specs.Asked.{Test, Questions, FirstNo, after_sound}
 use Rattle.labels.specs.Step.{step_of}
 use Rattle.analyze.specs.Phases.{active_after}
 use Rattle.analyze.specs.Analyze.{Machine, analyze}
-use Rattle.step.specs.declared.StepAnswer.{StepAnswer}
-use Rattle.step.specs.declared.StepAnswer.TheVariants.{Taken, Refused}
 use Rattle.step.specs.Questions.{step_tests}
-
--- document 01's number for each answer; the 0 of a step that is taken is ours
-abbrev pub number_of : StepAnswer → ℕ
-number_of Taken = taken
-number_of (Refused r) = refusal_number r
 
 -- what a step is lent: what goes along with every call, and its stack and memory
 pub record Lent : Type 0 where

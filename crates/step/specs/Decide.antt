@@ -1,15 +1,17 @@
 -- What the parts of a step promise each other: a plan run on the table, what is written, and what was decided before.
 -- No outcome is written with these.
-use Rattle.std.specs.Prelude.{ℕ, ◌*◌, ◌≤◌, ◌≡◌, true, List, length, get_or}
+use Rattle.std.specs.Prelude.{ℕ, ◌*◌, ◌≤◌, ◌≡◌, true, List, length, get_or, Ok, Err}
+use Rattle.std.specs.declared.result.Result.{Result}
 use Rattle.limits.specs.Layout.{slot_width, entry_width, step_op}
 use Rattle.limits.specs.Refusal.{number_of}
-use Rattle.facts.specs.State.{Node}
-use Rattle.paths.specs.declared.Reached.{Reached}
-use Rattle.paths.specs.Represents.{Represents}
+use Rattle.limits.specs.declared.refusal.Refusal.{Refusal}
+use Rattle.paths.specs.declared.lent.Facts.{Facts}
+use Rattle.paths.specs.Lent.{facts_of, Grows}
 use Rattle.labels.specs.Step.{step_of}
 use Rattle.operations.specs.declared.Operation.{Operation}
 use Rattle.operations.specs.Run.{run, run_all}
-use Rattle.head.specs.Held.{records_in, state_in}
+use Rattle.head.specs.declared.Head.{Head}
+use Rattle.head.specs.Held.{Held, held, records_in, state_in}
 use Rattle.head.specs.Asked.{code_fits}
 use Rattle.head.specs.Admitting.{Admits}
 use Rattle.analyze.specs.declared.OnStack.{OnStack}
@@ -22,22 +24,36 @@ use Rattle.analyze.specs.Phases.{hints_of, active_after}
 use Rattle.analyze.specs.Analyze.{plan_of}
 use Rattle.step.specs.declared.Ran.{Ran}
 use Rattle.step.specs.declared.Planned.{Planned}
-use Rattle.step.specs.declared.Decision.{Decision}
-use Rattle.step.specs.declared.Decision.TheVariants.{Refused, Accepted}
 use Rattle.step.specs.Questions.{sizes_fit, labels_fit, fields_fit, slot_there, room_there}
-use Rattle.step.specs.Call.{Lent, machine_of, is_active, Outcome}
+use Rattle.step.specs.Call.{Lent, lend, machine_of, is_active, Outcome}
 
--- the first operation was run on the state s, and the path that it makes dynamic is known
-pub record RanFirst (s : List Node) (o : Operation) (t : List ℕ) (r : Reached) (n : ℕ) : Type 0 where
-  pub holds : Represents t r.used n (run s o)
-  pub path : r.number ≡ loaded_path s o
-  pub within : r.number ≤ r.used
+-- the first operation was run, and the path that it makes dynamic is known
+pub record RanFirst (old new : Facts) (o : Operation) (path : ℕ) : Type 0 where
+  pub grows : Grows old new (run (facts_of old) o)
+  pub path_is : path ≡ loaded_path (facts_of old) o
+  pub within : path ≤ new.used
 
--- a plan was run on them
-pub record RanPlan (s : List Node) (p : Plan) (t : List ℕ) (r : Ran) (n : ℕ) : Type 0 where
-  pub holds : Represents t r.used n (run_all s (operations p))
-  pub path : r.path ≡ loaded_path s p.first
-  pub array : r.array ≡ is_array (run_all s (operations p)) r.path
+-- a plan was run
+pub record RanPlan (old new : Facts) (p : Plan) (r : Ran) : Type 0 where
+  pub grows : Grows old new (run_all (facts_of old) (operations p))
+  pub path : r.path ≡ loaded_path (facts_of old) p.first
+  pub array : r.array ≡ is_array (run_all (facts_of old) (operations p)) r.path
+
+-- the facts of a lent table, as what goes along with a call
+abbrev pub held_facts : Facts → ℕ → Held
+held_facts f active = held (record { used = f.used; active = active }) f.table.now
+
+abbrev pub lent : Facts → ℕ → List ℕ → List ℕ → Lent
+lent f active stack memory = lend (held_facts f active) stack memory
+
+-- which have passed questions 1 and 2
+abbrev pub IsAdmitted : Facts → ℕ → Type 0
+IsAdmitted f active = Admits (held_facts f active) f.records
+
+-- the head that goes along after a call
+abbrev pub head_after : Head → Result Head Refusal → Head
+head_after head (Ok after) = after
+head_after head (Err refusal) = head
 
 -- the stack has a slot for what is written
 abbrev pub StackFits : OnStack → List ℕ → Type 0
@@ -74,6 +90,6 @@ pub record Accepts (n : ℕ) (l : Lent) (bytes x : List ℕ) (p : Planned) : Typ
   pub active : p.active ≡ active_after (is_active l) (step_of x)
 
 -- what was decided before anything is written
-abbrev pub Decides : ℕ → Lent → List ℕ → List ℕ → Decision → Type 0
-Decides n l bytes x (Refused r) = Outcome l bytes x (number_of r) l
-Decides n l bytes x (Accepted p) = Accepts n l bytes x p
+abbrev pub Decides : ℕ → Lent → List ℕ → List ℕ → Result Planned Refusal → Type 0
+Decides n l bytes x (Err r) = Outcome l bytes x (number_of r) l
+Decides n l bytes x (Ok p) = Accepts n l bytes x p

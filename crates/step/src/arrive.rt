@@ -1,21 +1,46 @@
 // The public call.
-ghost use Rattle.std.specs.Prelude.{◌≡◌};
+ghost use Rattle.limits.specs.Refusal.{answer_number};
 ghost use Rattle.head.specs.Held.{held};
-ghost use Rattle.step.specs.Call.{Outcome, lend, number_of};
+ghost use Rattle.step.specs.Call.{Outcome, lend};
+ghost use Rattle.step.specs.Decide.{head_after};
 
-use crate::judging::judge;
-use crate::{StepAnswer, Stepped};
-use head::{Admitted, Head, records_of};
-use limits::TAKEN;
+use crate::Stepped;
+use crate::deciding::decide;
+use crate::running::{run_hints, run_plan};
+use crate::writing::{write_memory, write_stack};
+use head::{Head, records_of};
+use limits::Refusal;
+use paths::Facts;
 
-// Document 01's number for an answer, 0 for a step that is taken.
-pub fn number_of(answer: StepAnswer) -> u32
-    ensures { result ≡ number_of answer }
+// The head after a step that is taken: the table is written first, then the stack, then the memory.
+fn take(
+    head: Head,
+    table: &mut [u32],
+    code: &[u8],
+    stack: &mut [u32],
+    memory: &mut [u32],
+    numbers: &[u32],
+) -> Result<Head, Refusal>
+    ensures { Outcome (lend (held head table.old) stack.old memory.old)
+        code.now numbers.now (answer_number result)
+        (lend (held (head_after head result) table.new) stack.new memory.new) }
 {
-    match answer {
-        StepAnswer::Taken => TAKEN,
-        StepAnswer::Refused(refusal) => u32::from(refusal),
-    }
+    let records = records_of(head, table)?;
+    let mut facts = Facts {
+        table,
+        records,
+        used: head.used,
+    };
+    let planned = decide(&facts, head.active, code, stack, memory, numbers)?;
+    let plan = planned.plan;
+    run_hints(&mut facts, planned.hints);
+    let ran = run_plan(&mut facts, plan);
+    write_stack(stack, plan.stack, ran);
+    write_memory(memory, plan.memory, ran);
+    Ok(Head {
+        used: facts.used,
+        active: u32::from(planned.active),
+    })
 }
 
 // Takes a step, or refuses it by the first question that is answered with no.
@@ -28,15 +53,17 @@ pub fn step(
     numbers: &[u32],
 ) -> Stepped
     ensures { Outcome (lend (held head table.old) stack.old memory.old)
-        code.now numbers.now (number_of result.answer)
+        code.now numbers.now (answer_number result.answer)
         (lend (held result.head table.new) stack.new memory.new) }
 {
-    let admitted = records_of(head, table);
-    match admitted {
-        Admitted::Records(n) => judge(head, table, n, code, stack, memory, numbers),
-        Admitted::Refused(refusal) => Stepped {
+    match take(head, table, code, stack, memory, numbers) {
+        Ok(after) => Stepped {
+            head: after,
+            answer: Ok(()),
+        },
+        Err(refusal) => Stepped {
             head,
-            answer: StepAnswer::Refused(refusal),
+            answer: Err(refusal),
         },
     }
 }

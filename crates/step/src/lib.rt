@@ -5,28 +5,20 @@
 
 mod arrive;
 mod deciding;
-mod judging;
 mod questions;
 mod running;
 mod writing;
 
 use analyze::{Hints, Plan};
-pub use arrive::{number_of, step};
+pub use arrive::step;
 use head::Head;
 use limits::Refusal;
 
-// Taken, or the question that was answered with no.
-#[derive(Clone, Copy)]
-pub enum StepAnswer {
-    Taken,
-    Refused(Refusal),
-}
-
 // What a step leaves beside the lent tables.
-#[derive(Clone, Copy)]
+#[derive(Clone, Copy, Debug, PartialEq, Eq)]
 pub struct Stepped {
     pub head: Head,
-    pub answer: StepAnswer,
+    pub answer: Result<(), Refusal>,
 }
 
 // What a step will do: hints cleared, its plan, and whether the decoder is active after it.
@@ -37,18 +29,9 @@ pub struct Planned {
     pub active: bool,
 }
 
-// What is decided of a step before anything is written.
-#[derive(Clone, Copy)]
-pub enum Decision {
-    Accepted(Planned),
-    Refused(Refusal),
-}
-
-// What a plan has left: how many records are used; the path that a labelled load found, 0 for none, and whether it is
-// an array.
+// What a plan has found: the path of a labelled load, 0 for none, and whether it is an array.
 #[derive(Clone, Copy)]
 pub struct Ran {
-    pub used: u32,
     pub path: u32,
     pub array: bool,
 }

@@ -15,6 +15,7 @@ use word::compare::below_number;
 use word::numbers::from_numbers;
 
 // Question 4.
+#[tactic(auto, unfolding(crate::specs::Questions::sizes_fit))]
 pub fn sizes_fit(stack: &[u32], memory: &[u32], numbers: &[u32]) -> bool
     ensures { result ≡ sizes_fit stack.now memory.now numbers.now }
 {
@@ -25,6 +26,7 @@ pub fn sizes_fit(stack: &[u32], memory: &[u32], numbers: &[u32]) -> bool
 }
 
 // Question 5.
+#[tactic(auto, unfolding(crate::specs::Questions::labels_fit))]
 pub fn labels_fit(used: u32, stack: &[u32], memory: &[u32], numbers: &[u32]) -> bool
     requires { length numbers.now ≡ step_width }
     ensures { result ≡ labels_fit used stack.now memory.now numbers.now }
@@ -56,6 +58,7 @@ fn copy_fits(numbers: &[u32]) -> bool
 }
 
 // Question 6.
+#[tactic(auto, unfolding(crate::specs::Questions::fields_fit))]
 pub fn fields_fit(memory: &[u32], numbers: &[u32]) -> bool
     requires { length numbers.now ≡ step_width }
     ensures { result ≡ fields_fit memory.now numbers.now }
@@ -67,6 +70,7 @@ pub fn fields_fit(memory: &[u32], numbers: &[u32]) -> bool
 }
 
 // Question 7.
+#[tactic(auto, unfolding(crate::specs::Questions::slot_there))]
 pub fn slot_there(stack: &[u32], op: u8) -> bool
     ensures { result ≡ slot_there stack.now op }
 {

@@ -1,73 +1,60 @@
 // A plan run on the facts.
 ghost use Rattle.std.specs.Prelude.{◌≡◌, ◌≤◌, length};
-ghost use Rattle.facts.specs.State.{nodes};
-ghost use Rattle.paths.specs.Represents.{Represents};
+ghost use Rattle.paths.specs.Lent.{facts_of, Grows};
 ghost use Rattle.operations.specs.Run.{run, run_all};
 ghost use Rattle.operations.specs.Asks.{Reaches};
-ghost use Rattle.analyze.specs.Plan.{hint_operations, operations, loaded_path, is_array};
-ghost use Rattle.analyze.specs.Ready.{Ready, HintsReach, PlanReaches};
+ghost use Rattle.analyze.specs.Plan.{hint_operations, operations, is_array};
+ghost use Rattle.analyze.specs.Ready.{HintsReach, PlanReaches};
 ghost use Rattle.step.specs.Decide.{RanFirst, RanPlan};
 
 use crate::Ran;
 use analyze::{Hints, Plan};
-use facts::field;
 use limits::KIND_ARRAY;
-use limits::fields::KIND;
 use operations::{Operation, make_dynamic, run};
-use paths::Reached;
+use paths::Facts;
 
-// The hints cleared. Answers how many records are used then.
-pub fn run_hints(table: &mut [u32], n: u32, used: u32, hints: Hints) -> u32
-    requires ready { Ready table.old used n × HintsReach used hints }
-    requires hints_len_bound { length (run_all (nodes table.old used) (hint_operations hints)) ≤ n }
-    ensures { Represents table.new result n
-        (run_all (nodes table.old used) (hint_operations hints)) }
+// Clears the hints.
+#[tactic(auto, unfolding(operations::specs::Run::run_all))]
+pub fn run_hints(facts: &mut Facts, hints: Hints)
+    requires reach { HintsReach facts.old.used hints }
+    requires room { length (run_all (facts_of facts.old) (hint_operations hints)) ≤ facts.old.records }
+    ensures { Grows facts.old facts.new (run_all (facts_of facts.old) (hint_operations hints)) }
 {
-    let first = hints.first;
-    let second = hints.second;
-    let reached = run(table, n, used, first);
-    run(table, n, reached, second)
+    run(facts, hints.first);
+    run(facts, hints.second);
 }
 
-// The first operation of a plan, and the path that it makes dynamic, 0 for none.
-fn run_first(table: &mut [u32], n: u32, used: u32, operation: Operation) -> Reached
-    requires ready { Ready table.old used n × Reaches used operation }
-    requires operation_len_bound { length (run (nodes table.old used) operation) ≤ n }
-    ensures { RanFirst (nodes table.old used) operation table.new result n }
+// Runs the first operation of a plan. Answers the path that it makes dynamic, 0 for none.
+fn run_first(facts: &mut Facts, operation: Operation) -> u32
+    requires reach { Reaches facts.old.used operation }
+    requires room { length (run (facts_of facts.old) operation) ≤ facts.old.records }
+    ensures { RanFirst facts.old facts.new operation result }
 {
     let Operation::SetDynamic(path, offset, count) = operation else {
-        return Reached {
-            used: run(table, n, used, operation),
-            number: 0,
-        };
+        run(facts, operation);
+        return 0;
     };
-    make_dynamic(table, n, used, path, offset, count)
+    make_dynamic(facts, path, offset, count)
 }
 
 // Is record r, 0 for none, an array?
-fn is_array(table: &[u32], n: u32, used: u32, r: u32) -> bool
-    requires { Ready table.now used n × (r ≤ used) }
-    ensures { result ≡ is_array (nodes table.now used) r }
+fn is_array(facts: &Facts, r: u32) -> bool
+    requires { r ≤ facts.now.used }
+    ensures { result ≡ is_array (facts_of facts.now) r }
 {
-    if r == 0 {
-        return false;
-    }
-    field(table, r, KIND) == KIND_ARRAY
+    (r != 0) && (facts.kind(r) == KIND_ARRAY)
 }
 
-// The operations of a plan, in order.
-pub fn run_plan(table: &mut [u32], n: u32, used: u32, plan: Plan) -> Ran
-    requires ready { Ready table.old used n × PlanReaches used plan }
-    requires plan_len_bound { length (run_all (nodes table.old used) (operations plan)) ≤ n }
-    ensures { RanPlan (nodes table.old used) plan table.new result n }
+// Runs the operations of a plan, in order.
+#[tactic(auto, unfolding(operations::specs::Run::run_all))]
+pub fn run_plan(facts: &mut Facts, plan: Plan) -> Ran
+    requires reach { PlanReaches facts.old.used plan }
+    requires room { length (run_all (facts_of facts.old) (operations plan)) ≤ facts.old.records }
+    ensures { RanPlan facts.old facts.new plan result }
 {
-    let first = plan.first;
-    let second = plan.second;
-    let third = plan.third;
-    let made = run_first(table, n, used, first);
-    let path = made.number;
-    let reached = run(table, n, made.used, second);
-    let used = run(table, n, reached, third);
-    let array = is_array(table, n, used, path);
-    Ran { used, path, array }
+    let path = run_first(facts, plan.first);
+    run(facts, plan.second);
+    run(facts, plan.third);
+    let array = is_array(facts, path);
+    Ran { path, array }
 }

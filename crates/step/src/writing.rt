@@ -5,6 +5,7 @@ ghost use Rattle.labels.specs.Stack.{with_top_label, with_top_word, stack_ones};
 ghost use Rattle.analyze.specs.Plan.{loaded_arg, write_stack, write_memory};
 ghost use Rattle.step.specs.Decide.{StackFits, MemoryFits};
 
+use crate::Ran;
 use analyze::{InMemory, OnStack};
 use labels::{
     Label, Mask, Val, memory_ones, put_pick_label, put_pick_one, put_top_label, put_top_word,
@@ -24,12 +25,13 @@ fn loaded_arg(offset: u32, path: u32) -> Label
 }
 
 // What a labelled load leaves on top: the length of an array becomes 1.
-fn put_loaded(stack: &mut [u32], offset: u32, path: u32, array: bool)
+#[tactic(auto, unfolding(analyze::specs::Plan::write_stack))]
+fn put_loaded(stack: &mut [u32], offset: u32, ran: Ran)
     requires { StackFits (OnStack.Loaded offset) stack.old }
-    ensures { stack.new ≡ write_stack (OnStack.Loaded offset) path array stack.old }
+    ensures { stack.new ≡ write_stack (OnStack.Loaded offset) ran.path ran.array stack.old }
 {
-    let label = loaded_arg(offset, path);
-    if (offset == 0) & array {
+    let label = loaded_arg(offset, ran.path);
+    if (offset == 0) & ran.array {
         put_top_word(stack, 1);
         put_top_label(stack, label);
         return;
@@ -53,28 +55,30 @@ fn put_ones(stack: &mut [u32], path: u32, word: u32)
     put_top_word(stack, word);
 }
 
-// Path and array are those of a labelled load.
-pub fn write_stack(stack: &mut [u32], write: OnStack, path: u32, array: bool)
+// What was run says what a labelled load has found.
+#[tactic(auto, unfolding(analyze::specs::Plan::write_stack))]
+pub fn write_stack(stack: &mut [u32], write: OnStack, ran: Ran)
     requires { StackFits write stack.old }
-    ensures { stack.new ≡ write_stack write path array stack.old }
+    ensures { stack.new ≡ write_stack write ran.path ran.array stack.old }
 {
     match write {
         OnStack::Keep => {}
         OnStack::Word(word) => put_top_word(stack, word),
         OnStack::Label(label) => put_top_label(stack, label),
         OnStack::WordLabel(word, label) => put_top(stack, word, label),
-        OnStack::Loaded(offset) => put_loaded(stack, offset, path, array),
+        OnStack::Loaded(offset) => put_loaded(stack, offset, ran),
         OnStack::Ones(marked, word) => put_ones(stack, marked, word),
     }
 }
 
 // What a labelled load leaves in the entry that was picked.
-fn put_picked(memory: &mut [u32], pick: u32, offset: u32, path: u32, array: bool)
+#[tactic(auto, unfolding(analyze::specs::Plan::write_memory))]
+fn put_picked(memory: &mut [u32], pick: u32, offset: u32, ran: Ran)
     requires { MemoryFits (InMemory.Loaded pick offset) memory.old }
-    ensures { memory.new ≡ write_memory (InMemory.Loaded pick offset) path array memory.old }
+    ensures { memory.new ≡ write_memory (InMemory.Loaded pick offset) ran.path ran.array memory.old }
 {
-    let label = loaded_arg(offset, path);
-    if (offset == 0) & array {
+    let label = loaded_arg(offset, ran.path);
+    if (offset == 0) & ran.array {
         put_pick_one(memory, pick);
         put_pick_label(memory, pick, label);
         return;
@@ -82,14 +86,15 @@ fn put_picked(memory: &mut [u32], pick: u32, offset: u32, path: u32, array: bool
     put_pick_label(memory, pick, label);
 }
 
-pub fn write_memory(memory: &mut [u32], write: InMemory, path: u32, array: bool)
+#[tactic(auto, unfolding(analyze::specs::Plan::write_memory))]
+pub fn write_memory(memory: &mut [u32], write: InMemory, ran: Ran)
     requires { MemoryFits write memory.old }
-    ensures { memory.new ≡ write_memory write path array memory.old }
+    ensures { memory.new ≡ write_memory write ran.path ran.array memory.old }
 {
     match write {
         InMemory::Keep => {}
         InMemory::Label(pick, label) => put_pick_label(memory, pick, label),
-        InMemory::Loaded(pick, offset) => put_picked(memory, pick, offset, path, array),
+        InMemory::Loaded(pick, offset) => put_picked(memory, pick, offset, ran),
         InMemory::Ones(marked) => memory_ones(memory, marked),
     }
 }
