@@ -19,6 +19,7 @@ use opcode::{
 };
 
 // The arm of the step's opcode.
+#[tactic(auto, unfolding(analyze::specs::Arms::arm_by, opcode::specs::Lists::listed, opcode::specs::Lists::calls))]
 fn arm(table: &[u32], n: u32, used: u32, active: bool, code: &[u8], step: Step) -> Plan
     requires { Ready table.now used n × StepReaches used step }
     ensures { result ≡ arm (nodes table.now used) active code.now step }
