@@ -5,7 +5,7 @@ use mathlib.Core.Bool.{Bool, true, false, false≢true, cond, ◌&&◌}
 use mathlib.Core.List.{List}
 use native.Mathlib.Omega.{arith}
 use lib.Dec.{eqb, leb}
-use borrow.Author.Tests.{eq-eqb, ne_eqb, le-leb, lt-leb, leb-true}
+use borrow.Author.Tests.{ne_eqb, le-leb, lt-leb, leb-true}
 use Rattle.limits.specs.Limits.{word_bytes, selector_bytes, kind_array, records_max}
 use Rattle.facts.specs.State.{Node, nodes, node_of}
 use Rattle.kinds.specs.Kinds.{arrays_up, arrays_in_path}

@@ -19,11 +19,7 @@ fn is_arg(label: Label) -> bool
 fn compares_words(step: Step) -> u32
     ensures { result ≡ compares_words step }
 {
-    let first = step.first;
-    let second = step.second;
-    let first_label = first.label;
-    let second_label = second.label;
-    if (step.op == EQ) & is_arg(first_label) & is_arg(second_label) {
+    if (step.op == EQ) & is_arg(step.first.label) & is_arg(step.second.label) {
         return 1;
     }
     0
@@ -32,10 +28,10 @@ fn compares_words(step: Step) -> u32
 fn clear_operand(label: Label, block: u32) -> Operation
     ensures { result ≡ clear label block }
 {
-    let Label::Arg(val) = label else {
-        return Operation::Nothing;
-    };
-    Operation::ClearRangeHint(val.path, val.offset, block)
+    match label {
+        Label::Arg(val) => Operation::ClearRangeHint(val.path, val.offset, block),
+        _ => Operation::Nothing,
+    }
 }
 
 fn both(first: Operation, second: Operation) -> Hints
@@ -51,13 +47,9 @@ fn clear_operands(step: Step) -> Hints
 {
     let block = compares_words(step);
     if clears_operands(step.op) & ((step.op != EQ) | (block == 1)) {
-        let first = step.first;
-        let second = step.second;
-        let first_label = first.label;
-        let second_label = second.label;
         return both(
-            clear_operand(first_label, block),
-            clear_operand(second_label, block),
+            clear_operand(step.first.label, block),
+            clear_operand(step.second.label, block),
         );
     }
     both(Operation::Nothing, Operation::Nothing)

@@ -138,16 +138,15 @@ pub fn mul(table: &[u32], n: u32, used: u32, step: Step) -> Plan
     requires { Ready table.now used n × StepReaches used step }
     ensures { result ≡ mul (nodes table.now used) step }
 {
-    let first = step.first;
-    let second = step.second;
-    let length = choose(Pattern::Length, first, second);
-    let Choice::Chosen(val, _, other) = length else {
-        let any = choose(Pattern::Any, first, second);
-        return mark_first(table, n, used, any);
-    };
-    let label = other.label;
-    let word = other.word;
-    multiply(table, n, used, val.path, label, word)
+    match choose(Pattern::Length, step.first, step.second) {
+        Choice::Chosen(val, _, other) => {
+            multiply(table, n, used, val.path, other.label, other.word)
+        }
+        Choice::Neither => {
+            let any = choose(Pattern::Any, step.first, step.second);
+            mark_first(table, n, used, any)
+        }
+    }
 }
 
 // The bytes that a guarded shift leaves of a word, if it is such a check.
@@ -180,21 +179,24 @@ pub fn shl(table: &[u32], n: u32, used: u32, active: bool, code: &[u8], step: St
     requires { Ready table.now used n × StepReaches used step }
     ensures { result ≡ shl (nodes table.now used) active code.now step }
 {
-    let second = step.second;
-    let label = second.label;
-    let Label::Arg(val) = label else {
+    let Label::Arg(val) = step.second.label else {
         return nothing();
     };
-    let first = step.first;
-    let word = first.word;
+    let shift = step.first.word;
     if (val.path == 1) & active {
-        return bytes_named(val, bytes_shift(code, step.pc, word));
+        return bytes_named(val, bytes_shift(code, step.pc, shift));
     }
     if !is_length(val) {
         return nothing();
     }
-    let other = first.label;
-    multiply(table, n, used, val.path, other, power_of_two(word))
+    multiply(
+        table,
+        n,
+        used,
+        val.path,
+        step.first.label,
+        power_of_two(shift),
+    )
 }
 
 // Is it compared with 0, or with 31, as a string for storage is?
@@ -243,15 +245,11 @@ pub fn compare(table: &[u32], n: u32, used: u32, step: Step) -> Plan
     requires { Ready table.now used n × StepReaches used step }
     ensures { result ≡ compare (nodes table.now used) step }
 {
-    let first = step.first;
-    let second = step.second;
-    let general = choose(Pattern::Any, first, second);
-    let first_label = first.label;
-    let second_label = second.label;
-    if step.op == LT {
-        let bound = first.word;
-        return compare_with(table, n, used, second_label, bound, general);
-    }
-    let bound = second.word;
-    compare_with(table, n, used, first_label, bound, general)
+    let general = choose(Pattern::Any, step.first, step.second);
+    let (length, bound) = if step.op == LT {
+        (step.second.label, step.first.word)
+    } else {
+        (step.first.label, step.second.word)
+    };
+    compare_with(table, n, used, length, bound, general)
 }

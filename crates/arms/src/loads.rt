@@ -37,10 +37,7 @@ fn loaded_arg(offset: u32, path: u32) -> Label
 fn is_whole_word(added: u32) -> bool
     ensures { result ≡ is_whole_word added }
 {
-    if added < SELECTOR_BYTES {
-        return false;
-    }
-    (added - SELECTOR_BYTES) % WORD_BYTES == 0
+    added >= SELECTOR_BYTES && (added - SELECTOR_BYTES) % WORD_BYTES == 0
 }
 
 // The offset from the full path: a word is taken off for each array on the label's path, whose length stands before its
@@ -80,11 +77,10 @@ fn followed(step: Step, val: Val, offset: u32) -> Plan
     if step.op == CALLDATALOAD {
         return and_stack(follow, Operation::Nothing, OnStack::Loaded(offset));
     }
-    let pick = step.pick;
     and_memory(
         follow,
-        name_copied(pick, val),
-        InMemory::Loaded(pick, offset),
+        name_copied(step.pick, val),
+        InMemory::Loaded(step.pick, offset),
     )
 }
 
@@ -118,10 +114,7 @@ fn unlabelled_load(step: Step, word: U256) -> Plan
     let Some(offset) = keep(word) else {
         return nothing();
     };
-    if offset < SELECTOR_BYTES {
-        return nothing();
-    }
-    if LOAD_MAX < offset {
+    if offset < SELECTOR_BYTES || LOAD_MAX < offset {
         return nothing();
     }
     found(step, offset - SELECTOR_BYTES)
@@ -132,10 +125,8 @@ pub fn load(table: &[u32], n: u32, used: u32, step: Step) -> Plan
     requires { Ready table.now used n × StepReaches used step }
     ensures { result ≡ load (nodes table.now used) step }
 {
-    let first = step.first;
-    let label = first.label;
-    let Label::Arg(val) = label else {
-        return unlabelled_load(step, first.word);
-    };
-    labelled_load(table, n, used, step, val)
+    match step.first.label {
+        Label::Arg(val) => labelled_load(table, n, used, step, val),
+        _ => unlabelled_load(step, step.first.word),
+    }
 }

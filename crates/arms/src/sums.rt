@@ -51,9 +51,10 @@ fn longer(table: &[u32], n: u32, used: u32, f: Val, g: Val) -> Val
     ensures { result ≡ winner (nodes table.now used) f g }
 {
     if depth_of(table, n, used, g.path) < depth_of(table, n, used, f.path) {
-        return f;
+        f
+    } else {
+        g
     }
-    g
 }
 
 // Both operands are arguments.
@@ -119,16 +120,8 @@ pub fn add(table: &[u32], n: u32, used: u32, step: Step) -> Plan
     requires { Ready table.now used n × StepReaches used step }
     ensures { result ≡ add (nodes table.now used) step }
 {
-    let first = step.first;
-    let second = step.second;
-    let first_label = first.label;
-    let second_label = second.label;
-    let choice = choose(Pattern::Any, first, second);
-    let Label::Arg(f) = first_label else {
-        return add_one(choice);
-    };
-    let Label::Arg(g) = second_label else {
-        return add_one(choice);
-    };
-    add_both(table, n, used, f, g)
+    match (step.first.label, step.second.label) {
+        (Label::Arg(f), Label::Arg(g)) => add_both(table, n, used, f, g),
+        _ => add_one(choose(Pattern::Any, step.first, step.second)),
+    }
 }
