@@ -15,10 +15,6 @@ use Rattle.labels.specs.Operands.{on_arg, passes, choose}
 use Rattle.operations.specs.Asks.{IsUsed}
 use Rattle.analyze.specs.Ready.{LabelReaches, StepReaches, ChoiceReaches}
 
--- the path of an argument's label is a used record
-pub arg_reaches : (u : ℕ) (l : Label) (v : Val) → l ≡ Arg v → LabelReaches u l → IsUsed u v.path
-arg_reaches u l v e R = subst (LabelReaches u) e R
-
 -- what is chosen of two operands is an argument of one of them
 or_reaches : (u : ℕ) (test : Val → Bool) (l : Label) (own : U256) (other : Element) (d : Choice)
     → LabelReaches u l → LabelReaches u other.label → ChoiceReaches u d → ChoiceReaches u (on_arg l (λ v. cond (test v) (Chosen v own other) d) d)

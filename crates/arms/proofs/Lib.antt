@@ -1,3 +1,2 @@
-mod ByOpcode
 mod LengthLaws
 mod LoadLaws

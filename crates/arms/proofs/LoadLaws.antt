@@ -5,7 +5,7 @@ use mathlib.Core.Bool.{Bool, true, false, false≢true, cond, ◌&&◌}
 use mathlib.Core.List.{List}
 use native.Mathlib.Omega.{arith}
 use lib.Dec.{eqb, leb}
-use borrow.Author.Tests.{eq-eqb, ne_eqb, le-leb, lt-leb, leb-true}
+use borrow.Author.Tests.{ne_eqb, le-leb, lt-leb, leb-true}
 use Rattle.limits.specs.Limits.{word_bytes, selector_bytes, kind_array, records_max}
 use Rattle.facts.specs.State.{Node, node_of}
 use Rattle.kinds.specs.Kinds.{arrays_up, arrays_in_path}
@@ -44,10 +44,6 @@ few_arrays s u n v m k w U e =
     omega arith
 
 -- what is taken off for arrays
-off_first : (m a : ℕ) → a ≡ selector_bytes → arrays_off m a ≡ 0
-unfolding arrays_off
-off_first m a e = rw (eq-eqb a selector_bytes e) refl
-
 off_more : (m a : ℕ) → a - selector_bytes < word_bytes * m → arrays_off m a ≡ 0
 unfolding arrays_off
 off_more m a l = rw (lt-leb (word_bytes * m) (a - selector_bytes) l) (go (eqb a selector_bytes))
@@ -64,12 +60,6 @@ module _ (s : List Node) (v : Val) where
   offset_is : (m x : ℕ) → m ≡ arrays_in_path s v.path → arrays_off m v.add_val ≡ x → v.add_val - selector_bytes - x ≡ new_offset s v
   unfolding new_offset
   offset_is m x e q = sym (ap (λ (y : ℕ). v.add_val - selector_bytes - y) (ap (λ (y : ℕ). arrays_off y v.add_val) (sym e) ∙ q))
-
-  pub offset_first : is_whole_word v.add_val ≡ true → v.add_val - selector_bytes ≡ 0 → v.add_val - selector_bytes ≡ new_offset s v
-  offset_first w z =
-      let h = whole_least v.add_val w in
-      let e = offset_is (arrays_in_path s v.path) 0 refl (off_first (arrays_in_path s v.path) v.add_val (omega arith)) in
-      omega arith
 
   pub offset_kept : (m : ℕ) → m ≡ arrays_in_path s v.path → v.add_val - selector_bytes < word_bytes * m → v.add_val - selector_bytes ≡ new_offset s v
   offset_kept m e l =

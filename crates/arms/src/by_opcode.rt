@@ -20,6 +20,7 @@ use opcode::{
 use paths::Facts;
 
 // The arm of the step's opcode.
+#[tactic(auto, unfolding(analyze::specs::Arms::arm_by, opcode::specs::Lists::listed, opcode::specs::Lists::calls))]
 fn arm(facts: &Facts, active: bool, code: &[u8], step: Step) -> Plan
     requires { StepReaches facts.now.used step }
     ensures { result ≡ arm (facts_of facts.now) active code.now step }

@@ -25,10 +25,10 @@ fn compares_words(step: Step) -> bool
 fn clear_operand(label: Label, block: bool) -> Operation
     ensures { result ≡ clear label block }
 {
-    let Label::Arg(val) = label else {
-        return Operation::Nothing;
-    };
-    Operation::ClearRangeHint(val.path, val.offset, block)
+    match label {
+        Label::Arg(val) => Operation::ClearRangeHint(val.path, val.offset, block),
+        _ => Operation::Nothing,
+    }
 }
 
 fn both(first: Operation, second: Operation) -> Hints

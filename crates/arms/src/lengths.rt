@@ -137,16 +137,15 @@ pub fn mul(facts: &Facts, step: Step) -> Plan
     requires { StepReaches facts.now.used step }
     ensures { result ≡ mul (facts_of facts.now) step }
 {
-    let first = step.first;
-    let second = step.second;
-    let length = choose(Pattern::Length, first, second);
-    let Choice::Chosen(val, _, other) = length else {
-        let any = choose(Pattern::Any, first, second);
-        return mark_first(facts, any);
-    };
-    let label = other.label;
-    let word = other.word;
-    multiply(facts, val.path, label, word)
+    match choose(Pattern::Length, step.first, step.second) {
+        Choice::Chosen(val, _, other) => {
+            multiply(facts, val.path, other.label, other.word)
+        }
+        Choice::Neither => {
+            let any = choose(Pattern::Any, step.first, step.second);
+            mark_first(facts, any)
+        }
+    }
 }
 
 // The bytes that a guarded shift leaves of a word, if it is such a check.
@@ -179,21 +178,17 @@ pub fn shl(facts: &Facts, active: bool, code: &[u8], step: Step) -> Plan
     requires { StepReaches facts.now.used step }
     ensures { result ≡ shl (facts_of facts.now) active code.now step }
 {
-    let second = step.second;
-    let label = second.label;
-    let Label::Arg(val) = label else {
+    let Label::Arg(val) = step.second.label else {
         return nothing();
     };
-    let first = step.first;
-    let word = first.word;
+    let shift = step.first.word;
     if (val.path == 1) & active {
-        return bytes_named(val, bytes_shift(code, step.pc, word));
+        return bytes_named(val, bytes_shift(code, step.pc, shift));
     }
     if !is_length(val) {
         return nothing();
     }
-    let other = first.label;
-    multiply(facts, val.path, other, power_of_two(word))
+    multiply(facts, val.path, step.first.label, power_of_two(shift))
 }
 
 // Is it compared with 0, or with 31, as a string for storage is?
@@ -240,15 +235,11 @@ pub fn compare(facts: &Facts, step: Step) -> Plan
     requires { StepReaches facts.now.used step }
     ensures { result ≡ compare (facts_of facts.now) step }
 {
-    let first = step.first;
-    let second = step.second;
-    let general = choose(Pattern::Any, first, second);
-    let first_label = first.label;
-    let second_label = second.label;
-    if step.op == LT {
-        let bound = first.word;
-        return compare_with(facts, second_label, bound, general);
-    }
-    let bound = second.word;
-    compare_with(facts, first_label, bound, general)
+    let general = choose(Pattern::Any, step.first, step.second);
+    let (length, bound) = if step.op == LT {
+        (step.second.label, step.first.word)
+    } else {
+        (step.first.label, step.second.word)
+    };
+    compare_with(facts, length, bound, general)
 }

@@ -38,10 +38,7 @@ fn loaded_arg(offset: u32, path: u32) -> Label
 fn is_whole_word(added: u32) -> bool
     ensures { result ≡ is_whole_word added }
 {
-    if added < SELECTOR_BYTES {
-        return false;
-    }
-    (added - SELECTOR_BYTES) % WORD_BYTES == 0
+    added >= SELECTOR_BYTES && (added - SELECTOR_BYTES) % WORD_BYTES == 0
 }
 
 // The offset from the full path: a word is taken off for each array on the label's path, whose length stands before its
@@ -81,11 +78,10 @@ fn followed(step: Step, val: Val, offset: u32) -> Plan
     if step.op == CALLDATALOAD {
         return and_stack(follow, Operation::Nothing, OnStack::Loaded(offset));
     }
-    let pick = step.pick;
     and_memory(
         follow,
-        name_copied(pick, val),
-        InMemory::Loaded(pick, offset),
+        name_copied(step.pick, val),
+        InMemory::Loaded(step.pick, offset),
     )
 }
 
@@ -119,10 +115,7 @@ fn unlabelled_load(step: Step, word: U256) -> Plan
     let Some(offset) = keep(word) else {
         return nothing();
     };
-    if offset < SELECTOR_BYTES {
-        return nothing();
-    }
-    if LOAD_MAX < offset {
+    if offset < SELECTOR_BYTES || LOAD_MAX < offset {
         return nothing();
     }
     found(step, offset - SELECTOR_BYTES)
@@ -133,10 +126,8 @@ pub fn load(facts: &Facts, step: Step) -> Plan
     requires { StepReaches facts.now.used step }
     ensures { result ≡ load (facts_of facts.now) step }
 {
-    let first = step.first;
-    let label = first.label;
-    let Label::Arg(val) = label else {
-        return unlabelled_load(step, first.word);
-    };
-    labelled_load(facts, step, val)
+    match step.first.label {
+        Label::Arg(val) => labelled_load(facts, step, val),
+        _ => unlabelled_load(step, step.first.word),
+    }
 }

@@ -22,9 +22,7 @@ use word::sum::keep;
 pub fn call(step: Step) -> Plan
     ensures { result ≡ call step }
 {
-    let first = step.first;
-    let label = first.label;
-    let Label::Arg(val) = label else {
+    let Label::Arg(val) = step.first.label else {
         return nothing();
     };
     mark_and_name(val, ADDRESS, BY_THE_REST)
@@ -35,9 +33,7 @@ pub fn call(step: Step) -> Plan
 pub fn mstore8(step: Step) -> Plan
     ensures { result ≡ mstore8 step }
 {
-    let first = step.first;
-    let label = first.label;
-    let Label::Arg(val) = label else {
+    let Label::Arg(val) = step.first.label else {
         return nothing();
     };
     mark_and_name(val, UINT + 8, BY_MSTORE8)
@@ -71,9 +67,7 @@ fn name_if(val: Val, name: u32, confidence: u32) -> Plan
 pub fn shr(active: bool, code: &[u8], step: Step) -> Plan
     ensures { result ≡ shr active code.now step }
 {
-    let second = step.second;
-    let label = second.label;
-    let Label::Arg(val) = label else {
+    let Label::Arg(val) = step.second.label else {
         return nothing();
     };
     if !active {
@@ -82,8 +76,7 @@ pub fn shr(active: bool, code: &[u8], step: Step) -> Plan
     if guard_failure_pc(code, step.pc, true).is_none() {
         return nothing();
     }
-    let first = step.first;
-    name_if(val, width_name(first.word), BY_THE_REST)
+    name_if(val, width_name(step.first.word), BY_THE_REST)
 }
 
 // SDIV and SMOD: the first operand that is an argument is signed.
@@ -91,10 +84,7 @@ pub fn shr(active: bool, code: &[u8], step: Step) -> Plan
 pub fn signed(step: Step) -> Plan
     ensures { result ≡ signed step }
 {
-    let first = step.first;
-    let second = step.second;
-    let choice = choose(Pattern::Any, first, second);
-    let Choice::Chosen(val, _, _) = choice else {
+    let Choice::Chosen(val, _, _) = choose(Pattern::Any, step.first, step.second) else {
         return nothing();
     };
     mark_and_name(val, INT + 256, BY_SDIV_OR_SMOD)
@@ -128,14 +118,10 @@ fn masked(val: Val, mask: U256, name: u32) -> Plan
 pub fn and(step: Step) -> Plan
     ensures { result ≡ and step }
 {
-    let first = step.first;
-    let second = step.second;
-    let choice = choose(Pattern::NoMask, first, second);
-    let Choice::Chosen(val, _, other) = choice else {
+    let Choice::Chosen(val, _, other) = choose(Pattern::NoMask, step.first, step.second) else {
         return nothing();
     };
-    let mask = other.word;
-    masked(val, mask, and_mask_to_type(mask))
+    masked(val, other.word, and_mask_to_type(other.word))
 }
 
 // EQ of v and of w, which is v masked.
@@ -157,15 +143,13 @@ fn eq_masked(v: Val, w: Val, mask: Mask) -> Plan
 fn eq_both(v: Val, w: Val) -> Plan
     ensures { result ≡ eq_both v w }
 {
-    let v_mask = v.and_mask;
-    let w_mask = w.and_mask;
-    if is_unmasked(v_mask) {
-        return eq_masked(v, w, w_mask);
+    if is_unmasked(v.and_mask) {
+        eq_masked(v, w, w.and_mask)
+    } else if is_unmasked(w.and_mask) {
+        eq_masked(w, v, v.and_mask)
+    } else {
+        nothing()
     }
-    if is_unmasked(w_mask) {
-        return eq_masked(w, v, v_mask);
-    }
-    nothing()
 }
 
 // EQ of an argument and the same one masked: the mask's type.
@@ -173,17 +157,10 @@ fn eq_both(v: Val, w: Val) -> Plan
 pub fn eq(step: Step) -> Plan
     ensures { result ≡ eq step }
 {
-    let first = step.first;
-    let second = step.second;
-    let first_label = first.label;
-    let second_label = second.label;
-    let Label::Arg(v) = first_label else {
-        return nothing();
-    };
-    let Label::Arg(w) = second_label else {
-        return nothing();
-    };
-    eq_both(v, w)
+    match (step.first.label, step.second.label) {
+        (Label::Arg(v), Label::Arg(w)) => eq_both(v, w),
+        _ => nothing(),
+    }
 }
 
 // The top has a new label, and nothing else is done.
@@ -202,9 +179,7 @@ fn label_top(label: Label) -> Plan
 pub fn is_zero(code: &[u8], step: Step) -> Plan
     ensures { result ≡ is_zero code.now step }
 {
-    let first = step.first;
-    let label = first.label;
-    match label {
+    match step.first.label {
         Label::Arg(val) => label_top(Label::IsZeroResult(val)),
         Label::IsZeroResult(val) => {
             if is_division_check(code, step.pc) {
@@ -222,13 +197,10 @@ pub fn is_zero(code: &[u8], step: Step) -> Plan
 pub fn sign_extend(step: Step) -> Plan
     ensures { result ≡ sign_extend step }
 {
-    let second = step.second;
-    let label = second.label;
-    let Label::Arg(val) = label else {
+    let Label::Arg(val) = step.second.label else {
         return nothing();
     };
-    let first = step.first;
-    let Some(k) = keep(first.word) else {
+    let Some(k) = keep(step.first.word) else {
         return nothing();
     };
     if WORD_BYTES <= k {
@@ -242,9 +214,7 @@ pub fn sign_extend(step: Step) -> Plan
 pub fn byte(step: Step) -> Plan
     ensures { result ≡ byte step }
 {
-    let second = step.second;
-    let label = second.label;
-    let Label::Arg(val) = label else {
+    let Label::Arg(val) = step.second.label else {
         return nothing();
     };
     one_operation(Operation::SetTname(val.path, val.offset, FIXED_BYTES + 32, BY_BYTE))
@@ -255,8 +225,7 @@ pub fn byte(step: Step) -> Plan
 pub fn mload(step: Step) -> Plan
     ensures { result ≡ mload step }
 {
-    let label = step.load;
-    let Label::Arg(val) = label else {
+    let Label::Arg(val) = step.load else {
         return nothing();
     };
     label_top(Label::Arg(val))

@@ -51,9 +51,10 @@ fn longer(facts: &Facts, f: Val, g: Val) -> Val
     ensures { result ≡ winner (facts_of facts.now) f g }
 {
     if facts.depth_of(g.path) < facts.depth_of(f.path) {
-        return f;
+        f
+    } else {
+        g
     }
-    g
 }
 
 // Both operands are arguments.
@@ -119,16 +120,8 @@ pub fn add(facts: &Facts, step: Step) -> Plan
     requires { StepReaches facts.now.used step }
     ensures { result ≡ add (facts_of facts.now) step }
 {
-    let first = step.first;
-    let second = step.second;
-    let first_label = first.label;
-    let second_label = second.label;
-    let choice = choose(Pattern::Any, first, second);
-    let Label::Arg(f) = first_label else {
-        return add_one(choice);
-    };
-    let Label::Arg(g) = second_label else {
-        return add_one(choice);
-    };
-    add_both(facts, f, g)
+    match (step.first.label, step.second.label) {
+        (Label::Arg(f), Label::Arg(g)) => add_both(facts, f, g),
+        _ => add_one(choose(Pattern::Any, step.first, step.second)),
+    }
 }

@@ -41,9 +41,6 @@ module _ (code : List ℕ) (at n : ℕ) (t : Bool) (et : t ≡ dense_shape code 
 
 -- only the lowest limb meets a mask below 2^32
 module _ (l3 l2 l1 l0 m : ℕ) (h : l0 < 2 ^ 64) (hm : m < 2 ^ 32) where
-  pub masked_fits : Fits w32 (bit_and l0 m)
-  masked_fits = record { fits = lt_of_le_of_lt (and_le_r l0 m) hm }
-
   pub masked_law : bit_and l0 m ≡ bit_and (value l3 l2 l1 l0) m
   masked_law =
       let high = (l3 * 2 ^ 64 + l2) * 2 ^ 64 + l1 in

@@ -1,4 +1,5 @@
-// "Names and type codes". 0 stands for no name.
+// "Names and type codes". 0 stands for no name. Numbers and no enum: a record and the list that C gets hold them, and
+// uint, int, fixed bytes and tuple have numbers added.
 pub const NO_NAME: u32 = 0;
 
 pub const BOOL: u32 = 1;

@@ -16,7 +16,8 @@ pub const LABEL_MASKED: usize = 4;
 
 pub const LABEL_MASK: usize = 5;
 
-// "A label is none, call data, argument, or zero test of an argument": its kinds.
+// "A label is none, call data, argument, or zero test of an argument": its kinds, the numbers by which C hands a label
+// over. The enum is `labels::Label`.
 pub const LABEL_NONE: u32 = 0;
 
 pub const LABEL_CALL_DATA: u32 = 1;

@@ -41,7 +41,7 @@ pub const RECORD_WIDTH: usize = 11;
 // "1 to 16,384 records".
 pub const RECORDS_MAX: u32 = 16384;
 
-// "Kind is 0 none, 1 dynamic, 2 array."
+// "Kind is 0 none, 1 dynamic, 2 array." Numbers and no enum: C lends the records as u32 numbers.
 pub const KIND_DYNAMIC: u32 = 1;
 
 pub const KIND_ARRAY: u32 = 2;

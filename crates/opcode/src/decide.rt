@@ -11,6 +11,7 @@ use crate::{
 
 // Does a step with this opcode clear range hints of its operands? REVERT, which clears all hints of a decoder, is
 // apart.
+#[tactic(auto, unfolding(crate::specs::Lists::listed, crate::specs::Lists::operand_clearers))]
 pub fn clears_operands(op: u8) -> bool
     ensures { result ≡ listed op operand_clearers }
 {
@@ -18,6 +19,7 @@ pub fn clears_operands(op: u8) -> bool
 }
 
 // Does a step with this opcode end the decoder phase?
+#[tactic(auto, unfolding(crate::specs::Lists::listed, crate::specs::Lists::decoder_enders))]
 pub fn ends_decoder(op: u8) -> bool
     ensures { result ≡ listed op decoder_enders }
 {
@@ -44,6 +46,7 @@ pub fn ends_decoder(op: u8) -> bool
 }
 
 // Question 7: does a step with this opcode need a slot on the stack?
+#[tactic(auto, unfolding(crate::specs::Lists::listed, crate::specs::Lists::slot_needers))]
 pub fn needs_slot(op: u8) -> bool
     ensures { result ≡ listed op slot_needers }
 {
@@ -54,6 +57,7 @@ pub fn needs_slot(op: u8) -> bool
 }
 
 // How many bytes PUSH1 to PUSH4 push; None for any other opcode. Guards and length checks know these four alone.
+#[tactic(auto, unfolding(crate::specs::Lists::push_size))]
 pub fn push_size(op: u8) -> Option<usize>
     ensures { (result ≡ push_size op) × IfSome result (λ n. n ≤ 4) }
 {

@@ -1,13 +1,11 @@
 -- What `multiplier_of` says of a multiplier, both ways, so that no caller opens it.
-use Rattle.std.proofs.Common.{Option, Some, None, ◌≡◌, ℕ, ◌*◌, ◌/◌, ◌%◌, ◌<◌, ◌≤◌, Bool, true, false, cond, ◌&&◌, eqb, leb, sym, refl, ap, ◌∙◌, subst, arith, eq-eqb, ne_eqb, eqb-true, le-leb, leb-true}
+use Rattle.std.proofs.Common.{◌≡◌, ℕ, ◌*◌, ◌/◌, ◌%◌, ◌≤◌, Bool, true, false, cond, ◌&&◌, eqb, leb, sym, refl, ap, ◌∙◌, subst, arith, eq-eqb, ne_eqb, eqb-true, le-leb, leb-true}
 use mathlib.Core.Bool.{false≢true}
 use borrow.Author.Tests.{eqb-false}
-use Rattle.word.specs.Kept.{kept_of}
 use Rattle.word.specs.Multiplier.{is_array_mark, multiplier_of}
 use Rattle.word.specs.declared.Multiplier.{Multiplier}
 use Rattle.word.specs.declared.Multiplier.TheVariants.{One, Two, Array, Other}
 use Rattle.word.proofs.Comparisons.{both_true}
-use Rattle.word.proofs.Keeping.{is_kept, is_lost}
 
 -- m counts k words, and k is from 1 to 99
 abbrev pub Counts : ℕ → ℕ → Type 0
@@ -64,25 +62,3 @@ reading_is m Other h = simp (ne_eqb m 1 h.0, ne_eqb m 2 h.1) (unmarked (is_array
 -- an array mark of k words is 32 k, with k from 1 to 99
 pub array_is : (m k : ℕ) → multiplier_of m ≡ Array k → (m ≡ 32 * k) × (1 ≤ k) × (k ≤ 99)
 array_is m k = multiplier_is m (Array k)
-
--- the multiplier as it was kept
-module _ (m : ℕ) (kept : Option ℕ) (given : kept ≡ kept_of m) where
-  pub lost_multiplier : kept ≡ None → Other ≡ multiplier_of m
-  lost_multiplier e = let l = is_lost m kept given e in reading_is m Other (omega arith)
-
-  pub kept_multiplier : (n : ℕ) → kept ≡ Some n → (r : Multiplier) → MultiplierSays n r → r ≡ multiplier_of m
-  kept_multiplier n e r h = reading_is n r h ∙ ap multiplier_of (is_kept m kept given n e)
-
--- which numbers count words
-module _ (n : ℕ) where
-  pub counted : n % 32 ≡ 0 → 32 ≤ n → n ≤ 3168 → Counts n (n / 32)
-  counted e l u = omega arith
-
-  pub not_multiple : (n % 32 ≡ 0 → ⊥) → (k : ℕ) → Counts n k → ⊥
-  not_multiple f k h = omega arith
-
-  pub too_small : n < 32 → (k : ℕ) → Counts n k → ⊥
-  too_small l k h = omega arith
-
-  pub too_large : 3168 < n → (k : ℕ) → Counts n k → ⊥
-  too_large l k h = omega arith

@@ -1,11 +1,9 @@
 -- Powers of two as words, and 2^shift as SHL of 1.
-use Rattle.std.proofs.Common.{Option, Some, None, ◌≡◌, ℕ, ◌+◌, ◌-◌, ◌*◌, ◌%◌, ◌^◌, ◌<◌, ◌≤◌, sym, ap, ◌∙◌, mod-eq_of_lt, one-mul, arith, pow-add, le-ltb, lt-ltb}
+use Rattle.std.proofs.Common.{◌≡◌, ℕ, ◌+◌, ◌-◌, ◌*◌, ◌%◌, ◌^◌, ◌<◌, ◌≤◌, sym, ap, ◌∙◌, mod-eq_of_lt, one-mul, arith, pow-add, le-ltb, lt-ltb}
 use native.Mathlib.Nat.{mul-mod_left}
 use native.Mathlib.Decide.{dec_lt}
 use lib.Pow.{pow-lt}
 use Rattle.word.specs.Arithmetic.{power_of}
-use Rattle.word.specs.Kept.{kept_of}
-use Rattle.word.proofs.Keeping.{is_kept, is_lost}
 
 -- a shift below the width loses nothing
 pub shifted_one : (w t : ℕ) → t < w → (1 * 2 ^ t) % 2 ^ w ≡ 2 ^ t
@@ -34,15 +32,3 @@ power_is_shl s = go (dec_lt s 256)
         let e : s - 256 + 256 ≡ s = omega arith in
         power_past s (omega arith)
         ∙ sym (ap (λ (n : ℕ). n % 2 ^ 256) (one-mul (2 ^ s) ∙ ap (λ (n : ℕ). 2 ^ n) (sym e) ∙ pow-add 2 (s - 256) 256) ∙ mul-mod_left (2 ^ (s - 256)) (2 ^ 256))
-
--- the shift as it was kept
-module _ (m : ℕ) (kept : Option ℕ) (given : kept ≡ kept_of m) where
-  pub lost_power : kept ≡ None → 0 ≡ power_of m
-  lost_power e = sym (power_past m (omega (arith, is_lost m kept given e)))
-
-  module _ (n : ℕ) (e : kept ≡ Some n) where
-    pub kept_power : (p : ℕ) → p ≡ 2 ^ n → n < 256 → p ≡ power_of m
-    kept_power p f h = f ∙ sym (power_within n h) ∙ ap power_of (is_kept m kept given n e)
-
-    pub past_power : 256 ≤ n → 0 ≡ power_of m
-    past_power h = sym (power_past n h) ∙ ap power_of (is_kept m kept given n e)

@@ -9,6 +9,7 @@ use limits::{ARRAY_COUNT_MAX, WORD_BYTES};
 
 const ARRAY_MARK_MAX: u32 = WORD_BYTES * ARRAY_COUNT_MAX;
 
+#[tactic(auto, unfolding(crate::specs::Multiplier::multiplier_of, crate::specs::Multiplier::is_array_mark, crate::specs::Kept::kept_of))]
 pub fn read_multiplier(m: U256) -> Multiplier
     ensures { result ≡ multiplier_of (value_of m) }
 {

@@ -24,6 +24,7 @@ fn power_below_256(shift: u32) -> U256
 }
 
 // The whole shift counts, so a shift with a high limb gives 0 whatever its low bits are.
+#[tactic(auto, unfolding(crate::specs::Arithmetic::power_of, crate::specs::Kept::kept_of))]
 pub fn power_of_two(shift: U256) -> U256
     ensures { value_of result ≡ power_of (value_of shift) }
 {

@@ -8,6 +8,7 @@ use crate::sum::keep;
 use limits::RANGE_BOUND_MAX;
 
 // Does the bound name a range? The comparison is value < bound if less_than, else value > bound.
+#[tactic(auto, unfolding(crate::specs::Range::is_range_bound, crate::specs::Kept::kept_of))]
 pub fn is_range_bound(bound: U256, less_than: bool) -> bool
     ensures { result ≡ is_range_bound (value_of bound) less_than }
 {

@@ -5,6 +5,3 @@ use Rattle.arms.proofs.lengths.compare.Goals as goal
 
 pub compare_with-requires : goal.compare_with-requires
 compare_with-requires c = search (given_choice, rules)
-
-pub compare_with-requires-2 : goal.compare_with-requires-2
-compare_with-requires-2 c = search (given_choice, rules)

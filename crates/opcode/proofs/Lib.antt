@@ -1,2 +1,0 @@
-mod Push
-mod Table
