@@ -17,9 +17,8 @@ use Rattle.types.proofs.Sizes.{count_codes, cons_length}
 use Rattle.names.specs.Ascii.{ascii}
 use Rattle.names.specs.Decimal.{decimal}
 use Rattle.names.proofs.Decimals.{decimal_short}
-use Rattle.spell.specs.Stored.{StoredAt, Stored}
+use Rattle.spell.specs.Stored.{StoredAt}
 use Rattle.spell.proofs.Stores.{sets_append, stored_both}
-use Rattle.trace.proofs.Pieces.{stored_first}
 use Rattle.trace.specs.Entry.{span}
 use Rattle.trace.specs.Text.{entry_line, entry_lines, args_line, list_lines}
 use Rattle.trace.specs.Lines.{EntryStored, Begins, EntriesStored, ListStored}
@@ -67,18 +66,13 @@ record Listed (ts : AbiTypes) (cs out₀ : List ℕ) (from at to k : ℕ) (out :
 pub record Listing (entries : ℕ) (cs out₀ : List ℕ) (from at to k : ℕ) (out : List ℕ) : Type 0 where
   pub inside : at ≤ length cs
   pub size : length out ≡ length out₀
-  pub within : to ≤ length out
-  pub turns : k ≤ entries
   held : (ts : AbiTypes) (rest : List ℕ) → Begins entries ts rest cs → Listed ts cs out₀ from at to k out
 
-pub listing_none : (entries : ℕ) (cs out : List ℕ) (from : ℕ) → from + 245792 ≤ length out
-    → Listing entries cs out from 0 from 0 out
+pub listing_none : (entries : ℕ) (cs out : List ℕ) (from : ℕ) → Listing entries cs out from 0 from 0 out
 unfolding append codes count
-listing_none entries cs out from h = record {
+listing_none entries cs out from = record {
   inside = omega arith;
   size = refl;
-  within = omega arith;
-  turns = omega arith;
   held =
       λ ts rest B. record { done = nil; left = ts; whole = refl; number = refl; place = refl; same = refl; end = refl };
 }
@@ -173,24 +167,19 @@ module _ (entries : ℕ) (cs out₀ : List ℕ) (from at to k : ℕ) (out : List
         some us nil w c p s d = absurd (omega (arith, B.number, count_append us nil, ap count w))
         some us (cons v vs) w c p s d = next us v vs w c p s d
 
-      pub listing_more : length out' ≡ length out → r ≤ length out'
-          → Listing entries cs out₀ from (at + n) r (k + 1) out'
-      listing_more size within = record {
+      pub listing_more : length out' ≡ length out → Listing entries cs out₀ from (at + n) r (k + 1) out'
+      listing_more size = record {
         inside = behind;
         size = size ∙ so_far.size;
-        within = within;
-        turns = omega arith;
         held = λ ts rest B.
             let l = so_far.held ts rest B in
             some ts rest B l.done l.left l.whole l.number l.place l.same l.end;
       }
 
 -- the first line and the entries behind it are the list
-pub list_stored : (entries left head : ℕ) (cs out out₁ out₂ : List ℕ) (n r : ℕ)
-    → Stored (args_line entries left head) out n out₁ → EntriesStored entries cs out₁ n r out₂
-    → ListStored entries left head cs out r out₂
+pub list_stored : (entries left head : ℕ) (cs out out₁ out₂ : List ℕ) (from n r : ℕ)
+    → StoredAt (args_line entries left head) out from n out₁ → EntriesStored entries cs out₁ n r out₂
+    → ListStored entries left head cs out from r out₂
 unfolding list_lines
-list_stored entries left head cs out out₁ out₂ n r s f ts rest B =
-    let line : StoredAt (args_line entries left head) out 0 n out₁ = (s.0, omega (arith, s.1)) in
-    stored_first out out₂ r (list_lines entries left head ts)
-    (stored_both out out₁ out₂ 0 n r (args_line entries left head) (entry_lines 0 ts) line (f ts rest B))
+list_stored entries left head cs out out₁ out₂ from n r s f ts rest B =
+    stored_both out out₁ out₂ from n r (args_line entries left head) (entry_lines 0 ts) s (f ts rest B)
