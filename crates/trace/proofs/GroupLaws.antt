@@ -9,11 +9,10 @@ use borrow.Author.Tests.{not-true, not-false}
 use lib.ListN.{length, get_or-append}
 use Rattle.limits.specs.Input.{number_bytes, group_slots, group_entries}
 use Rattle.limits.specs.Layout.{slot_width, entry_width}
-use Rattle.std.specs.Prelude.{Option, Some, None}
+use Rattle.std.specs.Prelude.{Some, None}
 use Rattle.trace.specs.Fits.{group_fits}
 use Rattle.trace.specs.Numbers.{number_at}
-use Rattle.trace.specs.Group.{front_bytes, slot_count, entry_count, rest_bytes, group_rest, group_room}
-use Rattle.trace.proofs.FitLaws.{slots_fit, entries_fit}
+use Rattle.trace.specs.Group.{front_bytes, slot_count, entry_count, rest_bytes, group_rest}
 
 module _ (bs : List ℕ) where
   by : (b : Bool) → group_fits (slot_count bs) (entry_count bs) ≡ b → group_rest bs ≡ cond b (Some (rest_bytes bs)) None
@@ -54,16 +53,6 @@ module _ (bs : List ℕ) where
           let same = sym (by false f) ∙ e in
           let z : ◌≡◌ {A = ℕ} 0 1 = cc in
           absurd (let n : ⊥ = omega arith in n)
-
-  -- 256 slots and 256 entries are the most
-  pub rest_within : (r : Option ℕ) (n : ℕ) → r ≡ group_rest bs → r ≡ Some n → front_bytes + n ≤ group_room
-  rest_within r n er e =
-      let fit = bytes_fit n (sym er ∙ e) in
-      let f = fit.0 in
-      let is = fit.1 in
-      let s = slots_fit (slot_count bs) (entry_count bs) true (sym f) refl in
-      let t = entries_fit (slot_count bs) (entry_count bs) true (sym f) refl in
-      omega arith
 
 -- a group is sized by its front, whatever stands behind
 module _ (front rest : List ℕ) (long : length front ≡ front_bytes) where

@@ -1,7 +1,7 @@
 // The sizes of a group: "for each step its 59 numbers, slot count, entry count, slots, entries". Both counts are looked
 // at before a slot is read.
-ghost use Rattle.std.specs.Prelude.{◌≡◌, ◌≤◌, length};
-ghost use Rattle.trace.specs.Group.{front_bytes, slot_count, entry_count, group_rest};
+ghost use Rattle.std.specs.Prelude.{◌≡◌, ◌+◌, ◌≤◌, length, IfSome};
+ghost use Rattle.trace.specs.Group.{front_bytes, slot_count, entry_count, group_rest, group_room};
 
 use crate::fits::group_fits;
 use crate::numbers::number_at;
@@ -36,7 +36,8 @@ pub fn entry_count(bytes: &[u8]) -> u32
 // How many bytes follow the front, by its two counts; none where they are over the sizes.
 pub fn group_rest(bytes: &[u8]) -> Option<usize>
     requires { front_bytes ≤ length bytes.now }
-    ensures { result ≡ group_rest bytes.now }
+    ensures rest { result ≡ group_rest bytes.now }
+    ensures in_room { IfSome result (λ n. front_bytes + n ≤ group_room) }
 {
     let slots = slot_count(bytes);
     let entries = entry_count(bytes);
