@@ -41,8 +41,8 @@ fn put_separator(last: bool, w: &mut Writer)
 
 // A type is written: closes what it completes.
 fn close(held: &mut Held, w: &mut Writer)
-    requires depth { length held.old.items ≤ codes_max }
-    requires room { w.old.to + length (closers (stack_of held.old.items)) ≤ length w.old.out.now }
+    requires { (length held.old.items ≤ codes_max)
+        × (w.old.to + length (closers (stack_of held.old.items)) ≤ length w.old.out.now) }
     ensures stored { Puts (closers (stack_of held.old.items)) w.old w.new }
     ensures left { stack_of held.new.items ≡ still_open (stack_of held.old.items) }
     ensures no_deeper { length held.new.items ≤ length held.old.items }
@@ -60,8 +60,8 @@ fn close(held: &mut Held, w: &mut Writer)
 #[tactic(auto, using(spell::proofs::Stores::runs))]
 fn write_name(code: u16, last: bool, held: &mut Held, w: &mut Writer)
     requires code_value { is_name code ≡ true }
-    requires depth { length held.old.items ≤ codes_max }
-    requires room { w.old.to + length (piece_by (Ok Name) (stack_of held.old.items) code last) ≤ length w.old.out.now }
+    requires room { (length held.old.items ≤ codes_max)
+        × (w.old.to + length (piece_by (Ok Name) (stack_of held.old.items) code last) ≤ length w.old.out.now) }
     ensures stored { Puts (piece_by (Ok Name) (stack_of held.old.items) code last) w.old w.new }
     ensures left { stack_of held.new.items ≡ open_by (Ok Name) (stack_of held.old.items) }
     ensures no_deeper { length held.new.items ≤ length held.old.items }
@@ -74,9 +74,8 @@ fn write_name(code: u16, last: bool, held: &mut Held, w: &mut Writer)
 
 #[tactic(auto, using(crate::proofs::Stacks::codes))]
 fn write_code(code: u16, last: bool, held: &mut Held, w: &mut Writer)
-    requires depth { length held.old.items < codes_max }
-    requires room { w.old.to + length (piece_by (kind_of code) (stack_of held.old.items) code last)
-        ≤ length w.old.out.now }
+    requires { (length held.old.items < codes_max)
+        × (w.old.to + length (piece_by (kind_of code) (stack_of held.old.items) code last) ≤ length w.old.out.now) }
     ensures stored { Puts (piece_by (kind_of code) (stack_of held.old.items) code last) w.old w.new }
     ensures left { stack_of held.new.items ≡ open_by (kind_of code) (stack_of held.old.items) }
     ensures deeper_by_one { length held.new.items ≤ length held.old.items + 1 }
@@ -94,8 +93,7 @@ fn write_code(code: u16, last: bool, held: &mut Held, w: &mut Writer)
 }
 
 fn write_codes(codes: &[u16], w: &mut Writer)
-    requires few { length codes.now ≤ codes_max }
-    requires room { w.old.to + length (emit [] codes.now) ≤ length w.old.out.now }
+    requires { (length codes.now ≤ codes_max) × (w.old.to + length (emit [] codes.now) ≤ length w.old.out.now) }
     ensures stored { Puts (emit [] codes.now) w.old w.new }
     ensures slice { SameSlice w.old w.new }
 {

@@ -17,15 +17,15 @@ pub fn put_entries(w: &mut Writer, entries: u32, codes: &[u16])
     ensures entries_stored { EntriesStored entries codes.now w.old.out.now w.old.to w.new.to w.new.out.now }
     ensures slice { SameSlice w.old w.new }
 {
-    let mut at = 0;
+    let mut left = codes;
     for k in 0..entries {
         // never so for the codes of as many types
         if w.out.len() - w.to < LINE_ROOM {
             return;
         }
-        let behind = at + entry_length(&codes[at..]);
-        put_entry(w, k, &codes[at..behind]);
-        at = behind;
+        let (entry, behind) = left.split_at(entry_length(left));
+        put_entry(w, k, entry);
+        left = behind;
     }
 }
 

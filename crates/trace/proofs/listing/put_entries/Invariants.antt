@@ -5,4 +5,4 @@ use Rattle.trace.proofs.listing.put_entries.Given as goal
 
 abbrev pub invariant-loop-k : goal.invariant-loop-k
 invariant-loop-k l =
-    Listing l.entries l.codes l.fn.w.out.now l.fn.w.to l.at l.w.to l.k l.w.out.now × SameSlice l.fn.w l.w
+    Listing l.entries l.codes l.fn.w.out.now l.fn.w.to l.left l.w.to l.k l.w.out.now × SameSlice l.fn.w l.w
