@@ -67,10 +67,6 @@ module _ (c : ℕ) where
   pub kind_tuple : (n : ℕ) → kind_of c ≡ Ok (Tuple n) → (c ≡ 16384 + n) × (2 ≤ n)
   kind_tuple n e = subst (Says c) e (kind_says c)
 
-  -- n is a u16, as the number is
-  pub tuple_small : (n : ℕ) → Ok (Tuple n) ≡ kind_of c → c < 65536 → n < 65536
-  tuple_small n is h = omega (arith, kind_tuple n (sym is))
-
   -- a number of no kind is none of these
   pub kind_unknown : (e : UnknownCode) → kind_of c ≡ Err e → (c ≡ 5 → ⊥) × (c < 16386) × (is_name c ≡ false)
   kind_unknown e is = subst (Says c) is (kind_says c)
