@@ -113,4 +113,5 @@ pub outcome_text : (out : List ℕ) (r : ℕ) (out' : List ℕ) (t t' : Held) (t
     → Outcome t types h v t' types' → Reported v types' out 0 r out'
     → Stored (answer_text v (list_of (state_after t h))) out r out'
 outcome_text out r out' t t' types types' h v O f =
-    stored_first out out' r (answer_text v (list_of (state_after t h))) (outcome_text_at out 0 r out' t t' types types' h v O f)
+    stored_first out out' r (answer_text v (list_of (state_after t h)))
+    (outcome_text_at out 0 r out' t t' types types' h v O f)

@@ -25,6 +25,7 @@ impl<'a> Writer<'a> {
     }
 
     // Stores the bytes behind those that are written.
+    #[inline]
     #[tactic(auto, using(crate::proofs::Stores::stored_mid))]
     pub fn put(&mut self, bytes: &[u8])
         requires { self.old.to + length bytes.now ≤ length self.old.out.now }
@@ -37,6 +38,7 @@ impl<'a> Writer<'a> {
     }
 
     // A number in decimal.
+    #[inline]
     #[tactic(auto, using(crate::proofs::Decimals::written_decimal))]
     pub fn put_decimal(&mut self, n: u32)
         requires { self.old.to + length (decimal n) ≤ length self.old.out.now }
@@ -47,6 +49,7 @@ impl<'a> Writer<'a> {
     }
 
     // Words, and a number behind them.
+    #[inline]
     #[tactic(auto, using(crate::proofs::Stores::runs))]
     pub fn put_numbered(&mut self, words: &[u8], n: u32)
         requires { self.old.to + length words.now + length (decimal n) ≤ length self.old.out.now }

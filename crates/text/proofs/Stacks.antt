@@ -45,7 +45,8 @@ pub record Turn (st₀ out₀ : List ℕ) (to₀ : ℕ) (st out : List ℕ) (to 
   pub still : still_open st ≡ still_open st₀
   pub end : to + length (closers st) ≡ to₀ + length (closers st₀)
 
-module _ (st₀ out₀ : List ℕ) (to₀ : ℕ) (held out : List ℕ) (to : ℕ) (turn : Turn st₀ out₀ to₀ (stack_of held) out to) where
+module _ (st₀ out₀ : List ℕ) (to₀ : ℕ) (held out : List ℕ) (to : ℕ)
+    (turn : Turn st₀ out₀ to₀ (stack_of held) out to) where
   module _ (none : held ≡ []) where
     nothing : stack_of held ≡ []
     unfolding stack_of
@@ -54,7 +55,8 @@ module _ (st₀ out₀ : List ℕ) (to₀ : ℕ) (held out : List ℕ) (to : ℕ
     pub end_stored : StoredAt (closers st₀) out₀ to₀ to out
     unfolding closers
     end_stored =
-        (ap (λ (l : List ℕ). sets out to (closers l)) (sym nothing) ∙ turn.same, omega (arith, turn.end, ap length (ap closers nothing)))
+        let shut : closers (stack_of held) ≡ [] = ap closers nothing in
+        (ap (sets out to) (sym shut) ∙ turn.same, omega (arith, turn.end, ap length shut))
 
     pub end_left : stack_of held ≡ still_open st₀
     unfolding still_open

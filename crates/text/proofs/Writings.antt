@@ -46,7 +46,8 @@ module _ (cs out₀ : List ℕ) (to₀ : ℕ) (st out : List ℕ) (to i : ℕ) (
       let none : emit st (drop i cs) ≡ [] = ap (emit st) (drop_of_length-le cs h) in
       (ap (sets out to) (sym none) ∙ so_far.same, omega (arith, so_far.end, ap length none))
 
-  module _ (more : i < length cs) (c : ℕ) (last : Bool) (ec : c ≡ get_or cs i 0) (el : last ≡ eqb (i + 1) (length cs)) where
+  module _ (more : i < length cs) (c : ℕ) (last : Bool) (ec : c ≡ get_or cs i 0)
+      (el : last ≡ eqb (i + 1) (length cs)) where
     abbrev piece : List ℕ
     piece = piece_by (kind_of c) st c last
 

@@ -53,8 +53,8 @@ lines_short k (cons t ts) h =
       count_codes (cons t nil),
     )
 
--- behind k entries, with the codes l left: the types written and those left, and what the lines of these would make of the
--- slice
+-- behind k entries, with the codes l left: the types written and those left, and what the lines of these would make of
+-- the slice
 record Listed (ts : AbiTypes) (rest out₀ : List ℕ) (from : ℕ) (l : List ℕ) (to k : ℕ) (out : List ℕ) : Type 0 where
   done : AbiTypes
   left : AbiTypes
