@@ -7,7 +7,10 @@ use lib.Dec.{eqb}
 use borrow.Author.Tests.{eq-eqb, ne_eqb}
 use Rattle.word.specs.Numbers.{limbs_at}
 use Rattle.facts.specs.declared.Records.{Records}
-use Rattle.limits.specs.Refusal.{taken}
+use Rattle.std.specs.Prelude.{Ok, Err}
+use Rattle.std.specs.declared.result.Result.{Result}
+use Rattle.limits.specs.Refusal.{taken, answer_number}
+use Rattle.limits.specs.declared.refusal.Refusal.{Refusal}
 use Rattle.limits.proofs.Refusals.{not_taken}
 use Rattle.facts.specs.Fresh.{number_of as fresh_number, count_of}
 use Rattle.head.specs.Held.{Held}
@@ -19,10 +22,8 @@ use Rattle.closing.specs.Answer.{Verdict, verdict_of, number_of}
 use Rattle.closing.specs.Words.{hand}
 use Rattle.closing.specs.Call.{Outcome}
 use Rattle.step.specs.Call.{Lent as StepLent, Outcome as StepOutcome}
-use Rattle.text.specs.declared.TextAnswer.{TextAnswer}
-use Rattle.text.specs.declared.TextAnswer.TheVariants.{Written, Refused}
 use Rattle.text.specs.Call as text-call
-use Rattle.text.specs.Call.{length_of, number_of as text_number}
+use Rattle.text.specs.Call.{length_of}
 use Rattle.argcol.specs.declared.Values.{Values}
 use Rattle.argcol.specs.Numbers.{values_after, packed_of, hand_numbers, FreshOutcome, ClosingOutcome, TextOutcome}
 use Rattle.argcol.specs.Lengths.{length_after}
@@ -37,8 +38,8 @@ pub stepped_so : (l : StepLent) (bytes x : List ℕ) (n k : ℕ) (l' : StepLent)
     → StepOutcome l bytes x n l'
 stepped_so l bytes x n k l' e O = subst (λ (j : ℕ). StepOutcome l bytes x j l') (sym e) O
 
-pub written_so : (cs out : List ℕ) (lent : ℕ) (a : TextAnswer) (n m : ℕ) (out' : List ℕ) → n ≡ text_number a
-    → m ≡ length_after a lent → text-call.Outcome cs out (text_number a) (length_of a) out'
+pub written_so : (cs out : List ℕ) (lent : ℕ) (a : Result ℕ Refusal) (n m : ℕ) (out' : List ℕ) → n ≡ answer_number a
+    → m ≡ length_after a lent → text-call.Outcome cs out (answer_number a) (length_of a) out'
     → TextOutcome cs out lent n out' m
 written_so cs out lent a n m out' e q O = record {
   written = length_of a;
@@ -46,9 +47,9 @@ written_so cs out lent a n m out' e q O = record {
   leaves = q ∙ so a ∙ ap (λ (i : ℕ). cond (eqb i taken) (length_of a) lent) (sym e);
 }
   where
-    so : (b : TextAnswer) → length_after b lent ≡ cond (eqb (text_number b) taken) (length_of b) lent
-    so (Written k) = refl
-    so (Refused r) = sym (ap (λ (b : Bool). cond b 0 lent) (not_taken r))
+    so : (b : Result ℕ Refusal) → length_after b lent ≡ cond (eqb (answer_number b) taken) (length_of b) lent
+    so (Ok k) = refl
+    so (Err r) = sym (ap (λ (b : Bool). cond b 0 lent) (not_taken r))
 
 -- an answer's values, from those of its case
 pub values_so : (a b : Closing) (lent v : Values) → a ≡ b → v ≡ values_after (verdict_of b) lent

@@ -1,9 +1,8 @@
 -- In these words one function promises another; no outcome is written with them.
-use Rattle.std.specs.Prelude.{ℕ}
-use Rattle.text.specs.declared.TextAnswer.{TextAnswer}
-use Rattle.text.specs.declared.TextAnswer.TheVariants.{Written, Refused}
+use Rattle.std.specs.Prelude.{ℕ, Result, Ok, Err}
+use Rattle.limits.specs.declared.refusal.Refusal.{Refusal}
 
 -- the text's length, or what was lent for it
-abbrev pub length_after : TextAnswer → ℕ → ℕ
-length_after (Written n) lent = n
-length_after (Refused r) lent = lent
+abbrev pub length_after : Result ℕ Refusal → ℕ → ℕ
+length_after (Ok n) lent = n
+length_after (Err r) lent = lent

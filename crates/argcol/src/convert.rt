@@ -8,7 +8,7 @@ ghost use Rattle.argcol.specs.Lengths.{length_after};
 use crate::{Ended, Values};
 use closing::{Closing, Packed};
 use head::Head;
-use text::TextAnswer;
+use limits::Refusal;
 use word::numbers::from_numbers;
 
 // The kinds of a closing that is taken.
@@ -19,13 +19,10 @@ const OVER: u32 = 2;
 const GRANTED: u32 = 3;
 
 // The text's length, or what a host has lent for it where the call is refused.
-pub fn text_length(answer: TextAnswer, lent: usize) -> usize
+pub fn text_length(answer: Result<usize, Refusal>, lent: usize) -> usize
     ensures { result ≡ length_after answer lent }
 {
-    match answer {
-        TextAnswer::Written(n) => n,
-        TextAnswer::Refused(refusal) => lent,
-    }
+    answer.unwrap_or(lent)
 }
 
 // A closing's answer in numbers, or what a host has lent for them where the call is refused.

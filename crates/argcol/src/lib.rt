@@ -13,6 +13,7 @@ ghost use Rattle.argcol.specs.Version.{version};
 
 use convert::{close, text_length};
 use head::{Head, fresh};
+use limits::answer_number;
 use step::step;
 use text::text;
 
@@ -137,5 +138,5 @@ pub fn argcol_text(codes: &[u16], out: &mut [u8], length: &mut usize) -> u32
 {
     let answer = text(codes, out);
     *length = text_length(answer, *length);
-    text::number_of(answer)
+    answer_number(&answer)
 }

@@ -8,8 +8,7 @@ use lib.Dec.{eqb}
 use lib.ListN.{length, length-append}
 use borrow.Author.Tests.{eqb-true, eqb-false, eq-eqb, le-leb}
 use Rattle.facts.specs.Checks.{Tells}
-use Rattle.trace.specs.declared.GroupRest.{GroupRest}
-use Rattle.trace.specs.declared.GroupRest.TheVariants.{Bytes, Over}
+use Rattle.std.specs.Prelude.{Option, Some, None}
 use Rattle.trace.specs.Fits.{group_fits}
 use Rattle.trace.specs.Group.{front_bytes, slot_count, entry_count, rest_bytes, group_rest}
 use Rattle.trace.proofs.FitLaws.{slots_fit, entries_fit}
@@ -23,13 +22,13 @@ module _ (bs : List ℕ) where
   pub short_front : length bs < front_bytes → IsGroup bs → ⊥
   short_front h g = let front = g.front in omega arith
 
-  module _ (front : front_bytes ≤ length bs) (r : GroupRest) (is : r ≡ group_rest bs) where
-    pub counts_over : r ≡ Over → IsGroup bs → ⊥
+  module _ (front : front_bytes ≤ length bs) (r : Option ℕ) (is : r ≡ group_rest bs) where
+    pub counts_over : r ≡ None → IsGroup bs → ⊥
     counts_over e g =
         differ (group_fits (slot_count bs) (entry_count bs)) (simp (le-leb _ _ g.slots, le-leb _ _ g.entries)) (over_unfit bs (sym is ∙ e))
 
     -- as many bytes as the counts ask for
-    pub as_many : (n : ℕ) → r ≡ Bytes n → Tells (eqb (length bs) (front_bytes + n)) (IsGroup bs)
+    pub as_many : (n : ℕ) → r ≡ Some n → Tells (eqb (length bs) (front_bytes + n)) (IsGroup bs)
     as_many n e = go (eqb (length bs) (front_bytes + n)) refl
       where
         fit : (group_fits (slot_count bs) (entry_count bs) ≡ true) × (rest_bytes bs ≡ n)
@@ -46,7 +45,7 @@ module _ (bs : List ℕ) where
         go false t = λ g. eqb-false (length bs) (front_bytes + n) t (g.whole ∙ ap (λ (k : ℕ). front_bytes + k) fit.1)
 
 -- what is read behind a front by its counts makes a whole group of it
-pub read_whole : (front rest : List ℕ) (n : ℕ) → length front ≡ front_bytes → group_rest front ≡ Bytes n → length rest ≡ n → IsGroup (front ++ rest)
+pub read_whole : (front rest : List ℕ) (n : ℕ) → length front ≡ front_bytes → group_rest front ≡ Some n → length rest ≡ n → IsGroup (front ++ rest)
 read_whole front rest n ef e er =
     let long = length-append front rest in
     let said = as_many (front ++ rest) (omega arith) (group_rest front) (sym (rest_front front rest ef)) n e in

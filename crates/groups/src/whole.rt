@@ -2,7 +2,7 @@
 ghost use Rattle.facts.specs.Checks.{Tells};
 ghost use Rattle.groups.specs.Group.{IsGroup};
 
-use trace::{FRONT_BYTES, GroupRest, group_rest};
+use trace::{FRONT_BYTES, group_rest};
 
 // The front is there, its counts are within the sizes, and the bytes behind it are as many as these ask for.
 pub fn is_group(bytes: &[u8]) -> bool
@@ -11,9 +11,8 @@ pub fn is_group(bytes: &[u8]) -> bool
     if bytes.len() < FRONT_BYTES {
         return false;
     }
-    let rest = group_rest(bytes);
-    match rest {
-        GroupRest::Bytes(n) => bytes.len() == FRONT_BYTES + n,
-        GroupRest::Over => false,
+    match group_rest(bytes) {
+        Some(rest) => bytes.len() == FRONT_BYTES + rest,
+        None => false,
     }
 }

@@ -2,7 +2,7 @@
 #![tactic(auto)]
 
 ghost use Rattle.std.specs.Prelude.{◌≡◌};
-ghost use Rattle.names.specs.Elementary.{is_bits, is_name};
+ghost use Rattle.names.specs.Elementary.{is_bits, is_bytes, is_name};
 
 use limits::codes::{BOOL, FIXED_BYTES, INT, STRING, UINT};
 
@@ -10,21 +10,26 @@ use limits::codes::{BOOL, FIXED_BYTES, INT, STRING, UINT};
 fn is_bits(n: u32) -> bool
     ensures { result ≡ is_bits n }
 {
-    (8 <= n) & (n <= 256) & (n % 8 == 0)
+    (8..=256).contains(&n) && n % 8 == 0
+}
+
+// Fixed bytes 1 to 32.
+fn is_bytes(n: u32) -> bool
+    ensures { result ≡ is_bytes n }
+{
+    (1..=32).contains(&n)
 }
 
 // Is the number a name's code, with a width that question 2 allows?
+#[tactic(auto, unfolding(crate::specs::Elementary::is_name))]
 pub fn is_name(code: u32) -> bool
     ensures { result ≡ is_name code }
 {
-    if code < UINT {
-        return (BOOL <= code) & (code <= STRING);
+    match code {
+        BOOL..=STRING => true,
+        UINT..INT => is_bits(code - UINT),
+        INT..FIXED_BYTES => is_bits(code - INT),
+        FIXED_BYTES.. => is_bytes(code - FIXED_BYTES),
+        _ => false,
     }
-    if code < INT {
-        return is_bits(code - UINT);
-    }
-    if code < FIXED_BYTES {
-        return is_bits(code - INT);
-    }
-    (1 <= code - FIXED_BYTES) & (code - FIXED_BYTES <= 32)
 }

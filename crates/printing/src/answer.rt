@@ -8,6 +8,7 @@ use closing::Packed;
 use head::Head;
 use limits::TYPES_ROOM;
 use report::close_into;
+use spell::Writer;
 use trace::{LINE_ROOM, LIST_ROOM, put_refused};
 
 fn put(text: &[u8]) {
@@ -21,7 +22,9 @@ pub fn refuse_input() {
 // "`refused N at S` (number, step from 1, 0 for closing)".
 pub fn put_refusal(number: u32, step: u32) {
     let mut line = [0u8; LINE_ROOM];
-    let n = put_refused(&mut line, number, step);
+    let mut w = Writer::new(&mut line);
+    put_refused(&mut w, number, step);
+    let n = w.to;
     put(&line[0..n]);
 }
 

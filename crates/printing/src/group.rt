@@ -8,7 +8,7 @@ use crate::answer::{put_refusal, refuse_input};
 use crate::source::{Source, fetch};
 use groups::GroupAnswer;
 use head::Head;
-use trace::{FRONT_BYTES, GroupRest, group_rest};
+use trace::{FRONT_BYTES, group_rest};
 
 fn stop(source: Source, head: Head) -> Walk {
     refuse_input();
@@ -57,11 +57,10 @@ fn read_rest(
 ) -> Walk
     requires { length bytes.old ≡ group_room }
 {
-    let rest = group_rest(bytes);
-    let GroupRest::Bytes(n) = rest else {
+    let Some(rest) = group_rest(bytes) else {
         return stop(source, head);
     };
-    let end = FRONT_BYTES + n;
+    let end = FRONT_BYTES + rest;
     let read = fetch(source, &mut bytes[FRONT_BYTES..end]);
     let behind = read.source;
     if !read.whole {

@@ -36,47 +36,47 @@ use Rattle.closing.specs.Call.{tests_of, questions, state_after, Outcome}
 use Rattle.report.specs.Answer.{answer_text}
 use Rattle.report.specs.Closed.{Reported}
 
-module _ (answer : Closing) (cs out : List ℕ) (r : ℕ) (out' : List ℕ) where
-  by : (v : Verdict) → verdict_of answer ≡ v → Reported v cs out r out' → Reported (verdict_of answer) cs out r out'
-  by v e f = subst (λ (x : Verdict). Reported x cs out r out') (sym e) f
+module _ (answer : Closing) (cs out : List ℕ) (from r : ℕ) (out' : List ℕ) where
+  by : (v : Verdict) → verdict_of answer ≡ v → Reported v cs out from r out' → Reported (verdict_of answer) cs out from r out'
+  by v e f = subst (λ (x : Verdict). Reported x cs out from r out') (sym e) f
 
-  pub report_none : answer ≡ Nothing → StoredAt (ascii "none\n") out 0 r out'
-      → Reported (verdict_of answer) cs out r out'
+  pub report_none : answer ≡ Nothing → StoredAt (ascii "none\n") out from r out'
+      → Reported (verdict_of answer) cs out from r out'
   unfolding answer_text
-  report_none e s = by none (ap verdict_of e) (λ ts rest h c n. stored_first out out' r (ascii "none\n") s)
+  report_none e s = by none (ap verdict_of e) (λ ts rest h c n. s)
 
-  pub report_over : answer ≡ Over → StoredAt (ascii "over\n") out 0 r out' → Reported (verdict_of answer) cs out r out'
+  pub report_over : answer ≡ Over → StoredAt (ascii "over\n") out from r out' → Reported (verdict_of answer) cs out from r out'
   unfolding answer_text
-  report_over e s = by over (ap verdict_of e) (λ ts rest h c n. stored_first out out' r (ascii "over\n") s)
+  report_over e s = by over (ap verdict_of e) (λ ts rest h c n. s)
 
   pub report_list : (g : Granted) → answer ≡ GrantedAnswer g
-      → ListStored g.entries g.left g.length cs out r out' → Reported (verdict_of answer) cs out r out'
+      → ListStored g.entries g.left g.length cs out from r out' → Reported (verdict_of answer) cs out from r out'
   unfolding answer_text
   report_list g e f =
       by (granted g.entries g.left g.length) (ap verdict_of e)
       (λ ts rest h c n. f ts rest record { formed = h; number = n; spelt = c })
 
   pub report_refused : (q : Refusal) (number : ℕ) → answer ≡ Refused q → number ≡ refusal_number q
-      → Stored (refused_line number 0) out r out' → Reported (verdict_of answer) cs out r out'
+      → StoredAt (refused_line number 0) out from r out' → Reported (verdict_of answer) cs out from r out'
   unfolding answer_text
   report_refused q number e n line =
       by (refused (refusal_number q)) (ap verdict_of e)
-      (λ ts rest h c m. subst (λ (x : ℕ). Stored (refused_line x 0) out r out') n line)
+      (λ ts rest h c m. subst (λ (x : ℕ). StoredAt (refused_line x 0) out from r out') n line)
 
 -- the outcome's text
-module _ (out : List ℕ) (r : ℕ) (out' : List ℕ) where
+module _ (out : List ℕ) (from r : ℕ) (out' : List ℕ) where
   -- a refusal's text has no types
-  refused_text : (k : ℕ) (v : Verdict) (cs : List ℕ) (ts : AbiTypes) → v ≡ refused k → Reported v cs out r out'
-      → Stored (answer_text v ts) out r out'
+  refused_text : (k : ℕ) (v : Verdict) (cs : List ℕ) (ts : AbiTypes) → v ≡ refused k → Reported v cs out from r out'
+      → StoredAt (answer_text v ts) out from r out'
   unfolding answer_text codes well_formed
   refused_text k v cs ts e f =
-      let g = subst (λ (x : Verdict). Reported x cs out r out') e f nil cs refl refl tt in
-      subst (λ (x : Verdict). Stored (answer_text x ts) out r out') (sym e) g
+      let g = subst (λ (x : Verdict). Reported x cs out from r out') e f nil cs refl refl tt in
+      subst (λ (x : Verdict). StoredAt (answer_text x ts) out from r out') (sym e) g
 
   -- the answer for facts that are formed
   module _ (s : List Node) (F : Formed s) (types cs : List ℕ) (ec : cs ≡ types_after s types) where
-    cases : (a b : Bool) → a ≡ is_empty (children_in s 1) → b ≡ fits_budget s → Reported (answer_of s) cs out r out'
-        → Stored (answer_text (answer_of s) (list_of s)) out r out'
+    cases : (a b : Bool) → a ≡ is_empty (children_in s 1) → b ≡ fits_budget s → Reported (answer_of s) cs out from r out'
+        → StoredAt (answer_text (answer_of s) (list_of s)) out from r out'
     unfolding answer_text answer_of types_after codes well_formed
     cases true b ea eb f = rw (← ea) ((rw (← ea) at f) nil cs refl refl tt)
     cases false false ea eb f = rw (← ea, ← eb) ((rw (← ea, ← eb) at f) nil cs refl refl tt)
@@ -86,21 +86,20 @@ module _ (out : List ℕ) (r : ℕ) (out' : List ℕ) where
         ((rw (← ea, ← eb) at f) (list_of s) (drop (length (all_codes (list_of s))) types) p.spells.formed
         (rw (← ea, ← eb) at ec) (list_count s))
 
-    answer_text_lem : (v : Verdict) → v ≡ answer_of s → Reported v cs out r out'
-        → Stored (answer_text v (list_of s)) out r out'
+    answer_text_lem : (v : Verdict) → v ≡ answer_of s → Reported v cs out from r out'
+        → StoredAt (answer_text v (list_of s)) out from r out'
     answer_text_lem v e f =
-        let h = subst (λ (x : Verdict). Reported x cs out r out') e f in
+        let h = subst (λ (x : Verdict). Reported x cs out from r out') e f in
         let g = cases (is_empty (children_in s 1)) (fits_budget s) refl refl h in
-        subst (λ (x : Verdict). Stored (answer_text x (list_of s)) out r out') (sym e) g
+        subst (λ (x : Verdict). StoredAt (answer_text x (list_of s)) out from r out') (sym e) g
 
-  -- THE CLOSING'S TEXT: what is stored for its answer is the text of its outcome, with the list of the facts after the
-  -- fill
-  pub outcome_text : (t t' : Held) (types types' : List ℕ) (h : Handed) (v : Verdict) → Outcome t types h v t' types'
-      → Reported v types' out r out' → Stored (answer_text v (list_of (state_after t h))) out r out'
+  -- what is stored for the closing's answer is the text of its outcome, with the list of the facts after the fill
+  outcome_text_at : (t t' : Held) (types types' : List ℕ) (h : Handed) (v : Verdict) → Outcome t types h v t' types'
+      → Reported v types' out from r out' → StoredAt (answer_text v (list_of (state_after t h))) out from r out'
   unfolding filled
-  outcome_text t t' types types' h v O f = go (eqb O.number taken) refl
+  outcome_text_at t t' types types' h v O f = go (eqb O.number taken) refl
     where
-      go : (b : Bool) → b ≡ eqb O.number taken → Stored (answer_text v (list_of (state_after t h))) out r out'
+      go : (b : Bool) → b ≡ eqb O.number taken → StoredAt (answer_text v (list_of (state_after t h))) out from r out'
       go true e =
           let z = eqb-true O.number taken (sym e) in
           let S = (taken_first t (tests_of t h types) (subst (FirstNo (questions t h types)) z O.asked)).1.sound in
@@ -108,3 +107,11 @@ module _ (out : List ℕ) (r : ℕ) (out' : List ℕ) where
           (formed_fill (state_in t) (fill_words (state_in t) h) (sound_formed t.table t.head.used (records_in t) S))
           types types' (rw (← e) at O.writes) v (rw (← e) at O.answers) f
       go false e = refused_text _ v types' (list_of (state_after t h)) (rw (← e) at O.answers) f
+
+-- THE CLOSING'S TEXT: from the start of the slice on, that text is stored
+pub outcome_text : (out : List ℕ) (r : ℕ) (out' : List ℕ) (t t' : Held) (types types' : List ℕ) (h : Handed) (v : Verdict)
+    → Outcome t types h v t' types' → Reported v types' out 0 r out'
+    → Stored (answer_text v (list_of (state_after t h))) out r out'
+outcome_text out r out' t t' types types' h v O f =
+    stored_first out out' r (answer_text v (list_of (state_after t h)))
+    (outcome_text_at out 0 r out' t t' types types' h v O f)

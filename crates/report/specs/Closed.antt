@@ -4,7 +4,7 @@ use Rattle.types.specs.Tree.{AbiTypes, count, all_well_formed}
 use Rattle.types.specs.Codes.{all_codes}
 use Rattle.head.specs.Held.{Held}
 use Rattle.list.specs.Types.{list_of}
-use Rattle.spell.specs.Stored.{Stored}
+use Rattle.spell.specs.Stored.{StoredAt, Stored}
 use Rattle.closing.specs.Answer.{Verdict, refused, none, over, granted}
 use Rattle.closing.specs.Words.{Handed}
 use Rattle.closing.specs.Call.{state_after, Outcome}
@@ -17,11 +17,11 @@ HasEntries none ts = Unit {0}
 HasEntries over ts = Unit {0}
 HasEntries (granted entries left head) ts = count ts ≡ entries
 
--- the text of an answer stands at the start of the slice, for any types whose codes the type slice begins with
-abbrev pub Reported : Verdict → List ℕ → List ℕ → ℕ → List ℕ → Type 0
-Reported v cs out r out' =
+-- the text of an answer stands from an index on, for any types whose codes the type slice begins with
+abbrev pub Reported : Verdict → List ℕ → List ℕ → ℕ → ℕ → List ℕ → Type 0
+Reported v cs out from r out' =
     (ts : AbiTypes) (rest : List ℕ) → all_well_formed ts ≡ true → cs ≡ all_codes ts ++ rest → HasEntries v ts
-    → Stored (answer_text v ts) out r out'
+    → StoredAt (answer_text v ts) out from r out'
 
 -- what a closing prints and leaves: its outcome, head and lent slices with it, and the text of that outcome and of the
 -- list of the facts after the fill. (`one_outcome` of the closing: there is one outcome only.)

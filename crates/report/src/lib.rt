@@ -1,8 +1,9 @@
 // What is printed of a closing, on slices: `refused N at 0`, `none`, `over` or the list.
 #![tactic(auto)]
 
-ghost use Rattle.std.specs.Prelude.{◌≤◌, length};
+ghost use Rattle.std.specs.Prelude.{◌+◌, ◌≤◌, length};
 ghost use Rattle.limits.specs.Limits.{codes_max};
+ghost use Rattle.spell.specs.Writer.{SameSlice};
 ghost use Rattle.trace.specs.Lines.{list_room};
 ghost use Rattle.head.specs.Held.{held};
 ghost use Rattle.closing.specs.Words.{hand};
@@ -12,7 +13,7 @@ ghost use Rattle.report.specs.Closed.{Reported, Printed};
 use by_reference::run_close;
 use closing::{Closing, Packed};
 use head::Head;
-use spell::put_bytes;
+use spell::Writer;
 use trace::{put_list, put_refused};
 
 // What a closing that is printed leaves beside the lent slices: the head, and how many bytes were stored.
@@ -22,24 +23,23 @@ pub struct ClosedInto {
     pub length: usize,
 }
 
-// Stores the lines of an answer at the start of the slice: "else `none`, `over` or the list". Answers how many bytes
-// they have.
-fn put_answer(answer: Closing, types: &[u16], out: &mut [u8]) -> usize
-    requires { (length types.now ≤ codes_max) × (list_room ≤ length out.old) }
-    ensures reported { Reported (verdict_of answer) types.now out.old result out.new }
-    ensures upper_bound { result ≤ length out.new }
+// Stores the lines of an answer: "else `none`, `over` or the list".
+fn put_answer(answer: Closing, types: &[u16], w: &mut Writer)
+    requires { (length types.now ≤ codes_max) × (w.old.to + list_room ≤ length w.old.out.now) }
+    ensures reported { Reported (verdict_of answer) types.now w.old.out.now w.old.to w.new.to w.new.out.now }
+    ensures slice { SameSlice w.old w.new }
 {
     match answer {
-        Closing::Nothing => put_bytes(out, 0, b"none\n"),
-        Closing::Over => put_bytes(out, 0, b"over\n"),
+        Closing::Nothing => w.put(b"none\n"),
+        Closing::Over => w.put(b"over\n"),
         Closing::Granted(granted) => put_list(
-            out,
+            w,
             granted.entries,
             granted.left,
             granted.length,
             types,
         ),
-        Closing::Refused(refusal) => put_refused(out, u32::from(refusal), 0),
+        Closing::Refused(refusal) => put_refused(w, u32::from(refusal), 0),
     }
 }
 
@@ -60,8 +60,10 @@ pub fn close_into(
     ensures length_in_bounds { result.length ≤ length out.new }
 {
     let closed = run_close(head, table, code, start, packed, types);
-    let next = closed.head;
-    let answer = closed.answer;
-    let length = put_answer(answer, types, out);
-    ClosedInto { head: next, length }
+    let mut w = Writer::new(out);
+    put_answer(closed.answer, types, &mut w);
+    ClosedInto {
+        head: closed.head,
+        length: w.to,
+    }
 }

@@ -2,7 +2,7 @@
 use mathlib.Core.Path.{◌≡◌, sym, ap}
 use mathlib.Core.Bool.{true}
 use mathlib.Core.List.{◌++◌}
-use Prim.Native.Nat.{ℕ, ◌+◌, ◌-◌, ◌≤◌, ◌<◌}
+use Prim.Native.Nat.{ℕ, ◌-◌, ◌≤◌, ◌<◌}
 use native.Mathlib.Omega.{arith}
 use borrow.Author.Tests.{lt-ltb, le-ltb}
 use lib.ListN.{length}
@@ -10,7 +10,7 @@ use Rattle.names.specs.Ascii.{ascii}
 use Rattle.names.specs.Decimal.{decimal}
 use Rattle.names.specs.Elementary.{is_name, of_code}
 use Rattle.names.specs.Text.{name_text}
-use Rattle.names.proofs.Codes.{above, name_has_width}
+use Rattle.names.proofs.Codes.{above, name_has_width, name_wide}
 use Rattle.names.proofs.Texts.{name_short}
 
 -- a name has eight bytes at most
@@ -48,25 +48,15 @@ module _ (c : ℕ) where
   unfolding name_text
   fixed_text l = simp (above c (omega arith), le-ltb c 2000 (omega arith), le-ltb c 3000 l)
 
-  -- the lengths, of those with a width where it has d digits
-  pub bool_long : c ≡ 1 → 4 ≡ length (name_text (of_code c))
-  bool_long e = ap length (bool_text e)
-
-  pub address_long : c ≡ 2 → 7 ≡ length (name_text (of_code c))
-  address_long e = ap length (address_text e)
-
-  pub bytes_long : c ≡ 3 → 5 ≡ length (name_text (of_code c))
-  bytes_long e = ap length (bytes_text e)
-
-  pub string_long : c ≡ 4 → 6 ≡ length (name_text (of_code c))
-  string_long e = ap length (string_text e)
-
-  module _ (d : ℕ) where
-    pub uint_long : d ≡ length (decimal (c - 1000)) → 1000 ≤ c → c < 2000 → 4 + d ≡ length (name_text (of_code c))
-    uint_long e l h = omega (arith, ap length (uint_text l h))
-
-    pub int_long : d ≡ length (decimal (c - 2000)) → 2000 ≤ c → c < 3000 → 3 + d ≡ length (name_text (of_code c))
-    int_long e l h = omega (arith, ap length (int_text l h))
-
-    pub fixed_long : d ≡ length (decimal (c - 3000)) → 3000 ≤ c → 5 + d ≡ length (name_text (of_code c))
-    fixed_long e l = omega (arith, ap length (fixed_text l))
+-- what the text of each name and its length follow from
+pub ruleset spellings = (
+  bool_text,
+  address_text,
+  bytes_text,
+  string_text,
+  uint_text,
+  int_text,
+  fixed_text,
+  name_wide,
+  eight_long,
+)

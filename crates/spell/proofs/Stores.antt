@@ -1,12 +1,12 @@
--- Bytes stored: one run after another, room for a run, and what is left of one.
+-- Bytes stored, one run after another.
 use mathlib.Core.Path.{◌≡◌, sym, ap, ◌∙◌}
-use mathlib.Core.List.{List, [], ◌∷◌, ◌++◌}
-use Prim.Native.Nat.{ℕ, suc, ◌+◌, ◌≤◌, ◌<◌}
+use mathlib.Core.List.{List, [], ◌∷◌, ◌++◌, append_assoc}
+use Prim.Native.Nat.{ℕ, suc, ◌+◌, ◌-◌, ◌≤◌}
 use native.Mathlib.Nat.{add-zero}
-use native.Mathlib.Numerals.{add-one}
 use native.Mathlib.Omega.{arith}
-use lib.ListN.{length, get_or, drop, set, length-append, drop_of_length-le}
-use lib.Seq.{sets, drop-cons}
+use lib.ListN.{length, take, drop, set, length-append}
+use lib.Seq.{sets, sets-eq, drop-drop}
+use borrow.Rule.Slice.PartMut.{put_mid}
 use Rattle.spell.specs.Stored.{StoredAt}
 
 module _ {A : Type 0} where
@@ -29,26 +29,21 @@ pub stored_both : (l m n : List ℕ) (i j r : ℕ) (xs ys : List ℕ) → Stored
 stored_both l m n i j r xs ys s t =
     (sets_both l m n i j xs ys s.0 s.1 t.0, omega (arith, s.1, t.1, length-append xs ys))
 
--- a text stored is each text that equals it stored
-pub stored_as : (word text : List ℕ) → word ≡ text → (out last : List ℕ) (to r : ℕ)
-    → StoredAt word out to r last → StoredAt text out to r last
-stored_as word text e out last to r s = rw (← e) s
+-- bytes copied into a slice from a to n are stored from a on
+pub stored_mid : (xs t : List ℕ) (a n : ℕ) → n ≡ a + length t → n ≤ length xs → put_mid a (n - a) xs t ≡ sets xs a t
+stored_mid xs t a n e h =
+    let k : n - a ≡ length t = omega arith in
+    ap (λ (j : ℕ). take a xs ++ (t ++ drop j (drop a xs))) k
+    ∙ ap (λ (l : List ℕ). take a xs ++ (t ++ l)) (drop-drop (length t) a xs)
+    ∙ sym (append_assoc (take a xs) t (drop (a + length t) xs))
+    ∙ sym (sets-eq t xs a (omega arith))
 
--- room for n bytes, where n is k, or k and then d
-pub room : (to n k m : ℕ) → to + n ≤ m → k ≡ n → to + k ≤ m
-room to n k m h e = omega arith
+-- two runs of bytes, as a proof of several calls puts them together
+pub run_more : (l : List ℕ) (i j : ℕ) (xs ys : List ℕ) → j ≡ i + length xs
+    → sets l i (xs ++ ys) ≡ sets (sets l i xs) j ys
+run_more l i j xs ys e = sets_append l i xs ys ∙ ap (λ (k : ℕ). sets (sets l i xs) k ys) (sym e)
 
-pub room_sized : (to n k d m : ℕ) → to + n ≤ m → k + d ≡ n → to + k + d ≤ m
-room_sized to n k d m h e = omega arith
+pub run_length : (xs ys : List ℕ) → length (xs ++ ys) ≡ length xs + length ys
+run_length xs ys = length-append xs ys
 
-module _ (out : List ℕ) (to i : ℕ) (s all : List ℕ) where
-  -- one store more leaves one less
-  pub left_less : i < length s → sets out (to + i) (drop i s) ≡ all
-      → sets (set out (to + i) (get_or s i 0)) (to + (i + 1)) (drop (i + 1) s) ≡ all
-  left_less h e =
-      let n : to + (i + 1) ≡ suc (to + i) = omega arith in
-      rw (n, add-one) (sym (rw (drop-cons s i 0 h) at (sym e)))
-
-  -- behind the last store nothing is left
-  pub left_none : length s ≤ i → sets out (to + i) (drop i s) ≡ all → out ≡ all
-  left_none h e = rw (drop_of_length-le s h) at e
+pub ruleset runs = (run_more, run_length)

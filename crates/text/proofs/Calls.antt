@@ -9,9 +9,7 @@ use Rattle.types.specs.Tree.{AbiTypes}
 use Rattle.types.specs.Codes.{Spells, Passes}
 use Rattle.types.specs.Text.{list_text}
 use Rattle.types.proofs.Unique.{only_types}
-use Rattle.text.specs.declared.Measure.{Measure}
-use Rattle.text.specs.declared.Measure.TheVariants.{Length}
-use Rattle.text.specs.declared.Measure.TheVariants.{NotTypes as Unmeasured}
+use Rattle.std.specs.Prelude.{Option, Some}
 use Rattle.text.specs.Weight.{MeasuredBy}
 use Rattle.text.specs.Machine.{emit}
 use Rattle.text.specs.Call.{over, Outcome, written, no_types, too_long}
@@ -27,15 +25,9 @@ sets_over t out h =
 spelt_text : (ts : AbiTypes) (cs : List ℕ) → Spells ts cs → emit [] cs ≡ list_text ts
 spelt_text ts cs s = ap (emit []) (sym s.spelt) ∙ emit_is_text ts s.formed
 
-pub many_codes : (cs out : List ℕ) → 8192 < length cs → Outcome cs out 10 0 out
-many_codes cs out h = no_types (λ ts p. absurd (omega (arith, p.most))) refl refl refl
-
-module _ (cs out : List ℕ) (m : Measure) (measured : MeasuredBy cs m) where
-  pub not_types : m ≡ Unmeasured → Outcome cs out 10 0 out
-  not_types e = let f = subst (MeasuredBy cs) e measured in no_types (λ ts p. f ts p.spells) refl refl refl
-
-  module _ (most : length cs ≤ 8192) (n : ℕ) (e : m ≡ Length n) where
-    found : MeasuredBy cs (Length n)
+module _ (cs out : List ℕ) (m : Option ℕ) (measured : MeasuredBy cs m) where
+  module _ (most : length cs ≤ 8192) (n : ℕ) (e : m ≡ Some n) where
+    found : MeasuredBy cs (Some n)
     found = subst (MeasuredBy cs) e measured
 
     passes : Passes found.0 cs

@@ -15,7 +15,8 @@ use Rattle.types.specs.Tree.{AbiType, AbiTypes, elementary, array, tuple, nil, c
 use Rattle.types.specs.Codes.{codes, Spells}
 use Rattle.types.specs.Kind.{kind_of}
 use Rattle.types.specs.Text.{text, list_text, more_text}
-use Rattle.types.specs.declared.CodeKind.TheVariants.{Unknown}
+use Rattle.std.specs.Prelude.{Err}
+use Rattle.types.specs.declared.kind.UnknownCode.{UnknownCode}
 use Rattle.types.proofs.Formed.{tuple_count}
 use Rattle.types.proofs.KindLaws.{name_kind, array_kind, tuple_kind}
 use Rattle.types.specs.Root.{root, parts}
@@ -108,10 +109,10 @@ module _ (cs : List ℕ) (w l i c : ℕ) (more : i < length cs) (ec : c ≡ get_
   here : drop i cs ≡ c ∷ drop (i + 1) cs
   here = rw (add-one, ec) (drop-cons cs i 0 more)
 
-  pub counting_unknown : kind_of c ≡ Unknown → (ts : AbiTypes) → Spells ts cs → ⊥
-  counting_unknown e ts s =
+  pub counting_unknown : (u : UnknownCode) → kind_of c ≡ Err u → (ts : AbiTypes) → Spells ts cs → ⊥
+  counting_unknown u e ts s =
       let x = so_far.left ts s in
-      wanted_unknown c w (drop (i + 1) cs) e
+      wanted_unknown c w (drop (i + 1) cs) u e
       record { types = x.us; spells = rw here at x.spells; enough = x.enough }
 
   module _ (k : ℕ) (follows : Follows c k) (few : k ≤ 65535) (short : own c ≤ 65536) where
@@ -166,7 +167,7 @@ module _ (cs : List ℕ) (w l i : ℕ) (done : length cs ≤ i) (so_far : Counti
         let n = no_codes x.us (rw at_end at x.spells) in
         omega (arith, x.sum, n.0, n.1)
 
-    pub counting_empty : length cs ≡ 0 → (ts : AbiTypes) × Spells ts cs × (0 ≡ length (list_text ts))
+    counting_empty : length cs ≡ 0 → (ts : AbiTypes) × Spells ts cs × (0 ≡ length (list_text ts))
     unfolding text count
     counting_empty e = go found.types found.spells
       where
@@ -174,13 +175,16 @@ module _ (cs : List ℕ) (w l i : ℕ) (done : length cs ≤ i) (so_far : Counti
         go nil s = (nil, s, refl)
         go (cons t ts) s = absurd (omega (arith, count_codes (cons t ts), ap length s.spelt))
 
-    pub counting_whole : (length cs ≡ 0 → ⊥) → (ts : AbiTypes) × Spells ts cs × (l - 1 ≡ length (list_text ts))
+    counting_whole : (length cs ≡ 0 → ⊥) → (ts : AbiTypes) × Spells ts cs × (l - 1 ≡ length (list_text ts))
     counting_whole f =
         let ts = found.types in
         let n = some_types cs f ts found.spells in
         (ts, found.spells, omega (arith, counted, more_length ts, list_length ts n))
 
-    pub counting_some : (length cs ≡ 0 → ⊥) → 1 ≤ l
-    counting_some f =
-        let n = some_types cs f found.types found.spells in
-        omega (arith, counted, more_length found.types)
+    -- the comma before the first entry is taken off
+    pub counting_done : (ts : AbiTypes) × Spells ts cs × (l - 1 ≡ length (list_text ts))
+    counting_done = go (ℕ_discrete (length cs) 0)
+      where
+        go : Dec (length cs ≡ 0) → (ts : AbiTypes) × Spells ts cs × (l - 1 ≡ length (list_text ts))
+        go (yes e) = let w = counting_empty e in (w.0, w.1, omega (arith, w.2, so_far.short, so_far.turns))
+        go (no f) = counting_whole f

@@ -1,8 +1,7 @@
 pub mod Emitted
 mod Lengths
-mod Stacks
 mod Tallies
 mod Counts
-mod Pieces
+mod Stacks
 mod Writings
 pub mod Calls

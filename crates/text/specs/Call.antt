@@ -1,13 +1,12 @@
 -- The text call: "The text call asks 10: is the list a whole number of well-formed types, at most 8,192 codes? 11: does
 -- the text fit?"; "Bytes beyond the text keep their values."
-use Rattle.std.specs.Prelude.{ℕ, ◌≤◌, ◌<◌, ◌≡◌, List, ◌++◌, length, drop}
+use Rattle.std.specs.Prelude.{ℕ, ◌≤◌, ◌<◌, ◌≡◌, List, ◌++◌, length, drop, Result, Ok, Err}
 use Rattle.limits.specs.Refusal.{taken, number_of as refusal_number}
+use Rattle.limits.specs.declared.refusal.Refusal.{Refusal}
 use Rattle.limits.specs.declared.refusal.Refusal.TheVariants.{BadTypes, ShortText}
 use Rattle.types.specs.Tree.{AbiTypes}
 use Rattle.types.specs.Codes.{Passes}
 use Rattle.types.specs.Text.{list_text}
-use Rattle.text.specs.declared.TextAnswer.{TextAnswer}
-use Rattle.text.specs.declared.TextAnswer.TheVariants.{Written, Refused}
 
 -- the slice with a text at its start
 abbrev pub over : List ℕ → List ℕ → List ℕ
@@ -23,12 +22,7 @@ pub data Outcome (cs out : List ℕ) (number n : ℕ) (out' : List ℕ) : Type 0
   too_long : (ts : AbiTypes) → Passes ts cs → length out < length (list_text ts) → number ≡ refusal_number ShortText
       → n ≡ 0 → out' ≡ out → Outcome cs out number n out'
 
--- document 01's number for each answer; the 0 of a call that is taken is ours
-abbrev pub number_of : TextAnswer → ℕ
-number_of (Written n) = taken
-number_of (Refused r) = refusal_number r
-
--- and its value
-abbrev pub length_of : TextAnswer → ℕ
-length_of (Written n) = n
-length_of (Refused r) = 0
+-- the value of each answer; its number is `answer_number`
+abbrev pub length_of : Result ℕ Refusal → ℕ
+length_of (Ok n) = n
+length_of (Err r) = 0

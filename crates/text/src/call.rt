@@ -1,37 +1,26 @@
 // The public call.
-ghost use Rattle.std.specs.Prelude.{◌≡◌};
-ghost use Rattle.text.specs.Call.{Outcome, number_of, length_of};
+ghost use Rattle.limits.specs.Refusal.{answer_number};
+ghost use Rattle.text.specs.Call.{Outcome, length_of};
 
 use crate::count::measure;
 use crate::write::write_list;
-use crate::{Measure, TextAnswer};
-use limits::{CODES_MAX, Refusal, TAKEN};
+use limits::{CODES_MAX, Refusal};
 
-// Document 01's number for an answer, 0 for a text that is written.
-pub fn number_of(answer: TextAnswer) -> u32
-    ensures { result ≡ number_of answer }
-{
-    match answer {
-        TextAnswer::Written(n) => TAKEN,
-        TextAnswer::Refused(refusal) => u32::from(refusal),
-    }
-}
-
-// Writes the text of the list at the start of out. The length is known before the first byte is written, so a refusal
-// changes nothing.
-pub fn text(codes: &[u16], out: &mut [u8]) -> TextAnswer
-    ensures { Outcome codes.now out.old (number_of result) (length_of result) out.new }
+// Writes the text of the list at the start of out, and answers its length. 10: the codes are no whole number of
+// well-formed types, or more than 8,192. 11: the text does not fit. The length is known before the first byte is
+// written, so a refusal changes nothing.
+pub fn text(codes: &[u16], out: &mut [u8]) -> Result<usize, Refusal>
+    ensures { Outcome codes.now out.old (answer_number result) (length_of result) out.new }
 {
     if CODES_MAX < codes.len() {
-        return TextAnswer::Refused(Refusal::BadTypes);
+        return Err(Refusal::BadTypes);
     }
-    let measured = measure(codes);
-    let Measure::Length(n) = measured else {
-        return TextAnswer::Refused(Refusal::BadTypes);
+    let Some(length) = measure(codes) else {
+        return Err(Refusal::BadTypes);
     };
-    if out.len() < n {
-        return TextAnswer::Refused(Refusal::ShortText);
+    if out.len() < length {
+        return Err(Refusal::ShortText);
     }
     write_list(codes, out);
-    TextAnswer::Written(n)
+    Ok(length)
 }

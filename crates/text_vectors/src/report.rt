@@ -1,6 +1,5 @@
 // One line's end for an answer.
-use limits::number_of;
-use text::TextAnswer;
+use limits::Refusal;
 use vectors::{STDOUT_FILENO, put, put_number};
 
 // A sum over bytes and places, to tell long texts apart.
@@ -61,12 +60,12 @@ fn put_text(out: &[u8], n: usize) {
     put_kept(out, n);
 }
 
-pub fn report(answer: TextAnswer, out: &[u8]) {
+pub fn report(answer: Result<usize, Refusal>, out: &[u8]) {
     match answer {
-        TextAnswer::Written(n) => put_text(out, n),
-        TextAnswer::Refused(refusal) => {
+        Ok(length) => put_text(out, length),
+        Err(refusal) => {
             put(b" refused");
-            put_number(number_of(refusal) as u64);
+            put_number(u64::from(u32::from(refusal)));
             put_kept(out, 0);
         }
     }

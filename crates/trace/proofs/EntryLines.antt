@@ -13,7 +13,9 @@ use Rattle.names.specs.Decimal.{decimal}
 use Rattle.names.proofs.Decimals.{decimal_short}
 use Rattle.spell.specs.Stored.{StoredAt}
 use Rattle.spell.proofs.Stores.{stored_both}
-use Rattle.limits.specs.Refusal.{taken, number_of as refusal_number}
+use Rattle.std.specs.Prelude.{Ok, Err}
+use Rattle.std.specs.declared.result.Result.{Result}
+use Rattle.limits.specs.Refusal.{taken, answer_number, number_of as refusal_number}
 use Rattle.limits.specs.declared.refusal.Refusal.{Refusal}
 use Rattle.limits.proofs.Refusals.{not_taken}
 use Rattle.types.specs.Tree.{AbiType, AbiTypes, nil, cons, well_formed}
@@ -22,10 +24,8 @@ use Rattle.types.specs.Text.{list_text}
 use Rattle.types.proofs.Formed.{cons_formed}
 use Rattle.types.proofs.Shorts.{list_short}
 use Rattle.types.proofs.Unique.{only_types}
-use Rattle.text.specs.Call.{over, Outcome, written as text-written, no_types as text-no-types, too_long, number_of}
+use Rattle.text.specs.Call.{over, Outcome, written as text-written, no_types as text-no-types, too_long}
 use Rattle.text.specs.Call.{length_of}
-use Rattle.text.specs.declared.TextAnswer.{TextAnswer}
-use Rattle.text.specs.declared.TextAnswer.TheVariants.{Written, Refused}
 use Rattle.trace.specs.Text.{entry_line}
 use Rattle.trace.specs.Lines.{EntryStored, written, no_types}
 
@@ -65,18 +65,19 @@ module _ (k : ℕ) (cs out mid xs : List ℕ) (to i a : ℕ) (room : to + 73760 
   text_short : (ts : AbiTypes) → Passes ts cs → length (list_text ts) ≤ 73728
   text_short ts p = omega (arith, list_short ts p.spells.formed, ap length p.spells.spelt, p.most)
 
-  module _ (answer : TextAnswer) (part' : List ℕ) (o : Outcome cs part (number_of answer) (length_of answer) part') where
-    pub entry_refused : (out' : List ℕ) (q : Refusal) → answer ≡ Refused q → EntryStored k cs out to to out'
-    entry_refused out' q e = go (subst (λ (x : TextAnswer). Outcome cs part (number_of x) (length_of x) part') e o)
+  module _ (answer : Result ℕ Refusal) (part' : List ℕ)
+      (o : Outcome cs part (answer_number answer) (length_of answer) part') where
+    pub entry_refused : (out' : List ℕ) (q : Refusal) → answer ≡ Err q → EntryStored k cs out to to out'
+    entry_refused out' q e = go (subst (λ (x : Result ℕ Refusal). Outcome cs part (answer_number x) (length_of x) part') e o)
       where
         go : Outcome cs part (refusal_number q) 0 part' → EntryStored k cs out to to out'
         go (text-written ts p h z n w) = absurd (eqb-false (refusal_number q) taken (not_taken q) z)
         go (text-no-types never z n w) = no_types never refl
         go (too_long ts p h z n w) = absurd (omega (arith, text_short ts p, part_long, as_long, number_near))
 
-    module _ (n : ℕ) (e : answer ≡ Written n) where
+    module _ (n : ℕ) (e : answer ≡ Ok n) where
       told : Outcome cs part 0 n part'
-      told = subst (λ (x : TextAnswer). Outcome cs part (number_of x) (length_of x) part') e o
+      told = subst (λ (x : Result ℕ Refusal). Outcome cs part (answer_number x) (length_of x) part') e o
 
       pub entry_near : (to < a + n) × (a + n ≤ to + 73739)
       entry_near = go told

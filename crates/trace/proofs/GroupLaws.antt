@@ -9,31 +9,29 @@ use borrow.Author.Tests.{not-true, not-false}
 use lib.ListN.{length, get_or-append}
 use Rattle.limits.specs.Input.{number_bytes, group_slots, group_entries}
 use Rattle.limits.specs.Layout.{slot_width, entry_width}
-use Rattle.trace.specs.declared.GroupRest.{GroupRest}
-use Rattle.trace.specs.declared.GroupRest.TheVariants.{Bytes, Over}
+use Rattle.std.specs.Prelude.{Some, None}
 use Rattle.trace.specs.Fits.{group_fits}
 use Rattle.trace.specs.Numbers.{number_at}
-use Rattle.trace.specs.Group.{front_bytes, slot_count, entry_count, rest_bytes, group_rest, group_room}
-use Rattle.trace.proofs.FitLaws.{slots_fit, entries_fit}
+use Rattle.trace.specs.Group.{front_bytes, slot_count, entry_count, rest_bytes, group_rest}
 
 module _ (bs : List ℕ) where
-  by : (b : Bool) → group_fits (slot_count bs) (entry_count bs) ≡ b → group_rest bs ≡ cond b (Bytes (rest_bytes bs)) Over
+  by : (b : Bool) → group_fits (slot_count bs) (entry_count bs) ≡ b → group_rest bs ≡ cond b (Some (rest_bytes bs)) None
   unfolding group_rest
-  by b e = ap (λ (x : Bool). cond x (Bytes (rest_bytes bs)) Over) e
+  by b e = ap (λ (x : Bool). cond x (Some (rest_bytes bs)) None) e
 
   module _ (s e : ℕ) (r : Bool) (es : s ≡ slot_count bs) (ee : e ≡ entry_count bs) (is : r ≡ group_fits s e) where
     fits : (b : Bool) → r ≡ b → group_fits (slot_count bs) (entry_count bs) ≡ b
     fits b e' = (λ i. group_fits (sym es i) (sym ee i)) ∙ sym is ∙ e'
 
-    pub rest_over : not r ≡ true → Over ≡ group_rest bs
+    pub rest_over : not r ≡ true → None ≡ group_rest bs
     rest_over n = sym (by false (fits false (not-true r n)))
 
-    pub rest_bytes_lem : not r ≡ false → Bytes ((s * slot_width + e * entry_width) * number_bytes) ≡ group_rest bs
+    pub rest_bytes_lem : not r ≡ false → Some ((s * slot_width + e * entry_width) * number_bytes) ≡ group_rest bs
     rest_bytes_lem n =
-        (λ i. Bytes ((es i * slot_width + ee i * entry_width) * number_bytes)) ∙ sym (by true (fits true (not-false r n)))
+        (λ i. Some ((es i * slot_width + ee i * entry_width) * number_bytes)) ∙ sym (by true (fits true (not-false r n)))
 
   -- the other way round
-  pub over_unfit : group_rest bs ≡ Over → group_fits (slot_count bs) (entry_count bs) ≡ false
+  pub over_unfit : group_rest bs ≡ None → group_fits (slot_count bs) (entry_count bs) ≡ false
   over_unfit e = go (group_fits (slot_count bs) (entry_count bs)) refl
     where
       go : (b : Bool) → group_fits (slot_count bs) (entry_count bs) ≡ b → b ≡ false
@@ -43,7 +41,7 @@ module _ (bs : List ℕ) where
           absurd (let n : ⊥ = omega arith in n)
       go false f = refl
 
-  pub bytes_fit : (n : ℕ) → group_rest bs ≡ Bytes n
+  pub bytes_fit : (n : ℕ) → group_rest bs ≡ Some n
       → (group_fits (slot_count bs) (entry_count bs) ≡ true) × (rest_bytes bs ≡ n)
   bytes_fit n e = go (group_fits (slot_count bs) (entry_count bs)) refl
     where
@@ -55,16 +53,6 @@ module _ (bs : List ℕ) where
           let same = sym (by false f) ∙ e in
           let z : ◌≡◌ {A = ℕ} 0 1 = cc in
           absurd (let n : ⊥ = omega arith in n)
-
-  -- 256 slots and 256 entries are the most
-  pub rest_within : (r : GroupRest) (n : ℕ) → r ≡ group_rest bs → r ≡ Bytes n → front_bytes + n ≤ group_room
-  rest_within r n er e =
-      let fit = bytes_fit n (sym er ∙ e) in
-      let f = fit.0 in
-      let is = fit.1 in
-      let s = slots_fit (slot_count bs) (entry_count bs) true (sym f) refl in
-      let t = entries_fit (slot_count bs) (entry_count bs) true (sym f) refl in
-      omega arith
 
 -- a group is sized by its front, whatever stands behind
 module _ (front rest : List ℕ) (long : length front ≡ front_bytes) where
@@ -82,4 +70,4 @@ module _ (front rest : List ℕ) (long : length front ≡ front_bytes) where
   rest_front =
       let s : slot_count (front ++ rest) ≡ slot_count front = number_front (group_slots * number_bytes) (omega arith) in
       let e : entry_count (front ++ rest) ≡ entry_count front = number_front (group_entries * number_bytes) (omega arith) in
-      λ i. cond (group_fits (s i) (e i)) (Bytes ((s i * slot_width + e i * entry_width) * number_bytes)) Over
+      λ i. cond (group_fits (s i) (e i)) (Some ((s i * slot_width + e i * entry_width) * number_bytes)) None

@@ -1,5 +1,5 @@
 -- Where a type ends: the reader that counts the types still wanted stops behind its last code.
-use mathlib.Core.Path.{◌≡◌, refl, sym, ap, ◌∙◌}
+use mathlib.Core.Path.{◌≡◌, refl, ap, ◌∙◌}
 use mathlib.Core.Bool.{true}
 use mathlib.Core.List.{List, [], ◌∷◌, ◌++◌, append_assoc}
 use Prim.Native.Nat.{ℕ, suc, ◌+◌, ◌-◌, ◌*◌, ◌≤◌, ◌<◌}
@@ -11,26 +11,10 @@ use lib.Seq.{drop-cons, take-append_seam, drop-append_seam}
 use Rattle.types.specs.Tree.{AbiType, AbiTypes, elementary, array, tuple, nil, cons, count, well_formed, all_well_formed}
 use Rattle.types.specs.Codes.{codes, all_codes}
 use Rattle.types.specs.Kind.{kind_of}
-use Rattle.types.specs.declared.CodeKind.{CodeKind}
-use Rattle.types.specs.declared.CodeKind.TheVariants.{Name, Array, Tuple, Unknown}
 use Rattle.types.specs.Root.{root, parts}
 use Rattle.types.proofs.Formed.{head_formed, tail_formed}
 use Rattle.types.proofs.Roots.{codes_root, every_type, root_name, root_array, root_tuple, parts_formed}
 use Rattle.trace.specs.Entry.{follow, span}
-
--- the answers of `following`, by the kind
-module _ (c : ℕ) (k : CodeKind) (is : k ≡ kind_of c) where
-  pub follow_name : k ≡ Name → 0 ≡ follow (kind_of c)
-  follow_name e = ap follow (sym e ∙ is)
-
-  pub follow_array : k ≡ Array → 1 ≡ follow (kind_of c)
-  follow_array e = ap follow (sym e ∙ is)
-
-  pub follow_tuple : (n : ℕ) → k ≡ Tuple n → n ≡ follow (kind_of c)
-  follow_tuple n e = ap follow (sym e ∙ is)
-
-  pub follow_unknown : k ≡ Unknown → 0 ≡ follow (kind_of c)
-  follow_unknown e = ap follow (sym e ∙ is)
 
 -- no types have no codes
 pub span_none : (cs : List ℕ) → span 0 cs ≡ 0

@@ -1,10 +1,8 @@
 -- The sizes of a group: "for each step its 59 numbers, slot count, entry count, slots, entries". The printer reads by
 -- these; no public call's outcome is written with them.
-use Rattle.std.specs.Prelude.{ℕ, ◌+◌, ◌*◌, cond, List}
+use Rattle.std.specs.Prelude.{ℕ, ◌+◌, ◌*◌, cond, List, Option, Some, None}
 use Rattle.limits.specs.Input.{number_bytes, group_width, group_slots, group_entries, trace_slots_max, trace_entries_max}
 use Rattle.limits.specs.Layout.{slot_width, entry_width}
-use Rattle.trace.specs.declared.GroupRest.{GroupRest}
-use Rattle.trace.specs.declared.GroupRest.TheVariants.{Bytes, Over}
 use Rattle.trace.specs.Fits.{group_fits}
 use Rattle.trace.specs.Numbers.{number_at}
 
@@ -31,9 +29,9 @@ entry_numbers bytes = entry_count bytes * entry_width
 abbrev pub rest_bytes : List ℕ → ℕ
 rest_bytes bytes = (slot_numbers bytes + entry_numbers bytes) * number_bytes
 
--- how many bytes follow the first 61 numbers, or that the counts are "over these sizes"
-unfoldable pub group_rest : List ℕ → GroupRest
-group_rest bytes = cond (group_fits (slot_count bytes) (entry_count bytes)) (Bytes (rest_bytes bytes)) Over
+-- how many bytes follow the first 61 numbers; none where the counts are "over these sizes"
+unfoldable pub group_rest : List ℕ → Option ℕ
+group_rest bytes = cond (group_fits (slot_count bytes) (entry_count bytes)) (Some (rest_bytes bytes)) None
 
 -- room for the longest group: "slots and entries 256 each"
 abbrev pub group_room : ℕ

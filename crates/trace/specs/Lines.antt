@@ -3,7 +3,7 @@
 use Rattle.std.specs.Prelude.{ℕ, true, ◌≡◌, List, ◌++◌}
 use Rattle.types.specs.Tree.{AbiTypes, count, all_well_formed}
 use Rattle.types.specs.Codes.{all_codes, Passes}
-use Rattle.spell.specs.Stored.{StoredAt, Stored}
+use Rattle.spell.specs.Stored.{StoredAt}
 use Rattle.trace.specs.Text.{entry_line, entry_lines, list_lines}
 
 -- room for any line: a type of 8,192 codes has at most nine bytes of text for each
@@ -36,6 +36,6 @@ abbrev pub EntriesStored : ℕ → List ℕ → List ℕ → ℕ → ℕ → Lis
 EntriesStored entries cs out from r out' =
     (ts : AbiTypes) (rest : List ℕ) → Begins entries ts rest cs → StoredAt (entry_lines 0 ts) out from r out'
 
-abbrev pub ListStored : ℕ → ℕ → ℕ → List ℕ → List ℕ → ℕ → List ℕ → Type 0
-ListStored entries left head cs out r out' =
-    (ts : AbiTypes) (rest : List ℕ) → Begins entries ts rest cs → Stored (list_lines entries left head ts) out r out'
+abbrev pub ListStored : ℕ → ℕ → ℕ → List ℕ → List ℕ → ℕ → ℕ → List ℕ → Type 0
+ListStored entries left head cs out from r out' =
+    (ts : AbiTypes) (rest : List ℕ) → Begins entries ts rest cs → StoredAt (list_lines entries left head ts) out from r out'

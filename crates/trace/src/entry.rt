@@ -4,18 +4,17 @@ ghost use Rattle.limits.specs.Limits.{codes_max};
 ghost use Rattle.types.specs.Kind.{kind_of};
 ghost use Rattle.trace.specs.Entry.{follow, span};
 
-use types::{CodeKind, kind_of};
+use types::CodeKind;
 
 // How many types follow a code.
+#[tactic(auto, using(types::proofs::KindLaws::kind_tuple))]
 fn following(code: u16) -> usize
     ensures { (result ≡ follow (kind_of code)) × (result < 65536) }
 {
-    let kind = kind_of(code);
-    match kind {
-        CodeKind::Name => 0,
-        CodeKind::Array => 1,
-        CodeKind::Tuple(n) => n as usize,
-        CodeKind::Unknown => 0,
+    match CodeKind::try_from(code) {
+        Ok(CodeKind::Array) => 1,
+        Ok(CodeKind::Tuple(n)) => n as usize,
+        Ok(CodeKind::Name) | Err(_) => 0,
     }
 }
 
@@ -25,13 +24,11 @@ pub fn entry_length(codes: &[u16]) -> usize
     ensures { (result ≡ span 1 codes.now) × (result ≤ length codes.now) }
 {
     let mut wanted: usize = 1;
-    let mut i = 0;
-    while 0 < wanted {
-        if codes.len() <= i {
+    for (i, &code) in codes.iter().enumerate() {
+        if wanted == 0 {
             return i;
         }
-        wanted = wanted - 1 + following(codes[i]);
-        i += 1;
+        wanted = wanted - 1 + following(code);
     }
-    i
+    codes.len()
 }

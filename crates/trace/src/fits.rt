@@ -8,18 +8,12 @@ use limits::input::{TRACE_CODE_MAX, TRACE_ENTRIES_MAX, TRACE_SLOTS_MAX};
 pub fn header_fits(length: u32, flag: u32) -> bool
     ensures { result ≡ header_fits length flag }
 {
-    if TRACE_CODE_MAX < length as usize {
-        return false;
-    }
-    flag <= 1
+    length as usize <= TRACE_CODE_MAX && flag <= 1
 }
 
 // The numbers of slots and of entries.
 pub fn group_fits(slots: u32, entries: u32) -> bool
     ensures { result ≡ group_fits slots entries }
 {
-    if TRACE_SLOTS_MAX < slots as usize {
-        return false;
-    }
-    entries as usize <= TRACE_ENTRIES_MAX
+    slots as usize <= TRACE_SLOTS_MAX && entries as usize <= TRACE_ENTRIES_MAX
 }

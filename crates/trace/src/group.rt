@@ -1,9 +1,8 @@
 // The sizes of a group: "for each step its 59 numbers, slot count, entry count, slots, entries". Both counts are looked
 // at before a slot is read.
-ghost use Rattle.std.specs.Prelude.{◌≡◌, ◌≤◌, length};
-ghost use Rattle.trace.specs.Group.{front_bytes, slot_count, entry_count, group_rest};
+ghost use Rattle.std.specs.Prelude.{◌≡◌, ◌+◌, ◌≤◌, length, IfSome};
+ghost use Rattle.trace.specs.Group.{front_bytes, slot_count, entry_count, group_rest, group_room};
 
-use crate::GroupRest;
 use crate::fits::group_fits;
 use crate::numbers::number_at;
 use limits::input::{
@@ -34,16 +33,17 @@ pub fn entry_count(bytes: &[u8]) -> u32
     number_at(bytes, GROUP_ENTRIES * NUMBER_BYTES)
 }
 
-// What follows the front, by its two counts.
-pub fn group_rest(bytes: &[u8]) -> GroupRest
+// How many bytes follow the front, by its two counts; none where they are over the sizes.
+pub fn group_rest(bytes: &[u8]) -> Option<usize>
     requires { front_bytes ≤ length bytes.now }
-    ensures { result ≡ group_rest bytes.now }
+    ensures rest { result ≡ group_rest bytes.now }
+    ensures in_room { IfSome result (λ n. front_bytes + n ≤ group_room) }
 {
     let slots = slot_count(bytes);
     let entries = entry_count(bytes);
     if !group_fits(slots, entries) {
-        return GroupRest::Over;
+        return None;
     }
     let numbers = slots as usize * SLOT_WIDTH + entries as usize * ENTRY_WIDTH;
-    GroupRest::Bytes(numbers * NUMBER_BYTES)
+    Some(numbers * NUMBER_BYTES)
 }

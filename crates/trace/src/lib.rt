@@ -15,10 +15,3 @@ pub use group::{FRONT_BYTES, GROUP_ROOM, entry_count, group_rest, slot_count};
 pub use lines::{LINE_ROOM, put_args, put_entry, put_refused};
 pub use listing::{LIST_ROOM, put_entries, put_list};
 pub use numbers::{number_at, read_numbers};
-
-// How many bytes follow the front of a group, or that its counts are over the sizes.
-#[derive(Clone, Copy)]
-pub enum GroupRest {
-    Bytes(usize),
-    Over,
-}

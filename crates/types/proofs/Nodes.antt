@@ -8,7 +8,8 @@ use lib.ListN.{length}
 use Rattle.types.specs.Tree.{AbiType, AbiTypes, nil, cons, count, append, well_formed}
 use Rattle.types.specs.Codes.{codes, Spells}
 use Rattle.types.specs.Kind.{kind_of}
-use Rattle.types.specs.declared.CodeKind.TheVariants.{Unknown}
+use Rattle.std.specs.Prelude.{Err}
+use Rattle.types.specs.declared.kind.UnknownCode.{UnknownCode}
 use Rattle.types.proofs.Formed.{head_formed, tail_formed, cons_formed}
 use Rattle.types.proofs.Append.{codes_append, count_append, formed_left, formed_right, formed_both, split}
 use Rattle.types.proofs.Sizes.{count_codes}
@@ -121,5 +122,5 @@ unfolding codes well_formed
 none_wanted = record { types = nil; spells = record { formed = refl; spelt = refl }; enough = omega arith }
 
 -- no types have codes that begin with a number of no kind
-pub wanted_unknown : (c n : ℕ) (cs : List ℕ) → kind_of c ≡ Unknown → Wanted n (c ∷ cs) → ⊥
-wanted_unknown c n cs e w = let o = opens c cs w.types w.spells in unknown_follows c o.0 e o.1
+pub wanted_unknown : (c n : ℕ) (cs : List ℕ) (e : UnknownCode) → kind_of c ≡ Err e → Wanted n (c ∷ cs) → ⊥
+wanted_unknown c n cs e is w = let o = opens c cs w.types w.spells in unknown_follows c e o.0 is o.1

@@ -11,7 +11,9 @@ use Rattle.types.specs.Tree.{all_well_formed}
 use Rattle.types.specs.Codes.{codes, all_codes}
 use Rattle.types.specs.Root.{root, parts}
 use Rattle.types.specs.Kind.{kind_of}
-use Rattle.types.specs.declared.CodeKind.TheVariants.{Name, Array, Tuple, Unknown}
+use Rattle.std.specs.Prelude.{Ok, Err}
+use Rattle.types.specs.declared.kind.CodeKind.TheVariants.{Name, Array, Tuple}
+use Rattle.types.specs.declared.kind.UnknownCode.{UnknownCode}
 use Rattle.types.proofs.KindLaws.{name_kind, array_kind, tuple_kind, kind_name, kind_array_lem, kind_tuple}
 use Rattle.types.proofs.KindLaws.{kind_unknown}
 use Rattle.types.proofs.Formed.{head_formed, cons_formed, tuple_count, tuple_parts, tuple_formed}
@@ -46,17 +48,17 @@ module _ (P : AbiType → Type 0) (Q : AbiTypes → Type 0) (none : Q nil)
     every_list (cons t ts) = more t ts (every_type t) (every_list ts)
 
 -- the first code of a well-formed type with no type inside is of the kind "name"
-pub root_name : (e : Elementary) → well_formed (elementary e) ≡ true → kind_of (root (elementary e)) ≡ Name
+pub root_name : (e : Elementary) → well_formed (elementary e) ≡ true → kind_of (root (elementary e)) ≡ Ok Name
 unfolding root well_formed
 root_name e h = name_kind (code_of e) (code_is_name e h)
 
 -- that of an array is of the kind "array"
-pub root_array : (t : AbiType) → kind_of (root (array t)) ≡ Array
+pub root_array : (t : AbiType) → kind_of (root (array t)) ≡ Ok Array
 unfolding root
 root_array t = array_kind
 
 -- that of a well-formed tuple is of the kind "tuple", with the number of its parts
-pub root_tuple : (ts : AbiTypes) → well_formed (tuple ts) ≡ true → kind_of (root (tuple ts)) ≡ Tuple (count ts)
+pub root_tuple : (ts : AbiTypes) → well_formed (tuple ts) ≡ true → kind_of (root (tuple ts)) ≡ Ok (Tuple (count ts))
 unfolding root
 root_tuple ts h = tuple_kind (count ts) (tuple_count ts h)
 
@@ -80,22 +82,22 @@ follows_only c j k (after_tuple e p) (after_tuple f q) = omega arith
 
 module _ (c : ℕ) where
   -- no type follows a number of the kind "name"
-  pub name_follows : kind_of c ≡ Name → Follows c 0
+  pub name_follows : kind_of c ≡ Ok Name → Follows c 0
   name_follows e = after_name (kind_name c e) refl
 
   -- one follows a number of the kind "array"
-  pub array_follows : kind_of c ≡ Array → Follows c 1
+  pub array_follows : kind_of c ≡ Ok Array → Follows c 1
   array_follows e = after_array (kind_array_lem c e) refl
 
   -- n follow a number of the kind "tuple of n"
-  pub tuple_follows : (n : ℕ) → kind_of c ≡ Tuple n → Follows c n
+  pub tuple_follows : (n : ℕ) → kind_of c ≡ Ok (Tuple n) → Follows c n
   tuple_follows n e = let s = kind_tuple c n e in after_tuple s.0 s.1
 
-  -- a number of the kind "unknown" is no code that types follow
-  pub unknown_follows : (k : ℕ) → kind_of c ≡ Unknown → Follows c k → ⊥
-  unknown_follows k e (after_name h p) = let s = kind_unknown c e in true≢false (sym h ∙ s.2)
-  unknown_follows k e (after_array a p) = (kind_unknown c e).0 a
-  unknown_follows k e (after_tuple t p) = let s = kind_unknown c e in omega arith
+  -- a number of no kind is no code that types follow
+  pub unknown_follows : (e : UnknownCode) (k : ℕ) → kind_of c ≡ Err e → Follows c k → ⊥
+  unknown_follows e k is (after_name h p) = let s = kind_unknown c e is in true≢false (sym h ∙ s.2)
+  unknown_follows e k is (after_array a p) = (kind_unknown c e is).0 a
+  unknown_follows e k is (after_tuple t p) = let s = kind_unknown c e is in omega arith
 
 -- as many types follow the first code as the type has parts
 pub root_follows : (t : AbiType) → well_formed t ≡ true → Follows (root t) (count (parts t))

@@ -1,0 +1,9 @@
+-- Piece by piece.
+use Rattle.std.proofs.Common.{rules}
+use Rattle.spell.proofs.Stores.{stored_both}
+use Rattle.trace.specs.Text.{refused_line}
+use Rattle.trace.proofs.lines.put_refused.Goals as goal
+
+pub returns-clause-stored : goal.returns-clause-stored
+unfolding refused_line
+returns-clause-stored c = search (stored_both, rules)
