@@ -18,7 +18,7 @@ pub fn number_of(answer: Closing) -> u32
     ensures { result ≡ number_of (verdict_of answer) }
 {
     match answer {
-        Closing::Refused(refusal) => limits::number_of(refusal),
+        Closing::Refused(refusal) => u32::from(refusal),
         Closing::Nothing => TAKEN,
         Closing::Over => TAKEN,
         Closing::Granted(granted) => TAKEN,

@@ -40,6 +40,6 @@ pub fn number_of(records: Records) -> u32
 {
     match records {
         Records::Count(n) => TAKEN,
-        Records::Unfit => limits::number_of(Refusal::NoRecords),
+        Records::Unfit => u32::from(Refusal::NoRecords),
     }
 }

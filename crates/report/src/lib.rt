@@ -12,7 +12,6 @@ ghost use Rattle.report.specs.Closed.{Reported, Printed};
 use by_reference::run_close;
 use closing::{Closing, Packed};
 use head::Head;
-use limits::number_of;
 use spell::put_bytes;
 use trace::{put_list, put_refused};
 
@@ -40,7 +39,7 @@ fn put_answer(answer: Closing, types: &[u16], out: &mut [u8]) -> usize
             granted.length,
             types,
         ),
-        Closing::Refused(refusal) => put_refused(out, number_of(refusal), 0),
+        Closing::Refused(refusal) => put_refused(out, u32::from(refusal), 0),
     }
 }
 

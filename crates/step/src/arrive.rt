@@ -14,7 +14,7 @@ pub fn number_of(answer: StepAnswer) -> u32
 {
     match answer {
         StepAnswer::Taken => TAKEN,
-        StepAnswer::Refused(refusal) => limits::number_of(refusal),
+        StepAnswer::Refused(refusal) => u32::from(refusal),
     }
 }
 

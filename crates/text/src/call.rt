@@ -13,7 +13,7 @@ pub fn number_of(answer: TextAnswer) -> u32
 {
     match answer {
         TextAnswer::Written(n) => TAKEN,
-        TextAnswer::Refused(refusal) => limits::number_of(refusal),
+        TextAnswer::Refused(refusal) => u32::from(refusal),
     }
 }
 
