@@ -1,14 +1,7 @@
 // What is read from the input. At its end all numbers are zero.
 use head::Head;
 use std::io::Read;
-use vectors::Vector;
-
-pub fn read_number(input: &mut impl Read) -> u32 {
-    match <[u8; 4]>::read(input) {
-        Ok(bytes) => u32::from_le_bytes(bytes),
-        Err(_) => 0,
-    }
-}
+use vectors::read_number;
 
 // The head of the step: the one handed in, unless it is replaced.
 pub fn read_head(input: &mut impl Read, head: Head) -> Head {

@@ -22,11 +22,10 @@ mod input;
 mod report;
 mod run;
 
-use input::read_number;
 use run::run_trace;
 use std::io;
 use std::io::Read;
-use vectors::{for_each, put_name};
+use vectors::{for_each, put_name, read_number};
 
 // Numbers of one record more than the largest table, so that a table can be too long.
 const TABLE_ROOM: usize = 180235;

@@ -1,9 +1,10 @@
 // One trace, step by step.
-use crate::input::{read_code, read_head, read_list, read_number, read_pairs};
+use crate::input::{read_code, read_head, read_list, read_pairs};
 use crate::report::{put_records, put_step};
 use head::Head;
 use std::io;
 use std::io::Read;
+use vectors::read_number;
 
 // Room for more than the largest lists, so that they can be too long.
 const CODE_ROOM: usize = 65540;

@@ -2,8 +2,9 @@
 // there is none.
 #![tactic(auto)]
 
-use printing::{Source, print_trace};
+use printing::print_trace;
+use std::io;
 
-fn main() {
-    print_trace(Source::Plain);
+fn main(rt: HostRuntime) -> io::Result<()> {
+    print_trace(&rt, &mut rt.reader())
 }

@@ -58,6 +58,14 @@ pub fn numbers<const K: usize>(bytes: &[u8]) -> [u32; K] {
     numbers
 }
 
+// The next four bytes, lowest byte first; zero where the input ends before.
+pub fn read_number(input: &mut impl Read) -> u32 {
+    match <[u8; 4]>::read(input) {
+        Ok(bytes) => u32::from_le_bytes(bytes),
+        Err(_) => 0,
+    }
+}
+
 // Writes a name that stands at the start of its field, or all of the field where the length is past it.
 pub fn put_name(rt: &impl Print, field: &[u8], length: usize) -> io::Result<()> {
     rt.write_all(field.get(..length).unwrap_or(field))
