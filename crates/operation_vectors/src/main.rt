@@ -28,7 +28,7 @@ fn run_one(rt: &impl Print, input: &mut impl Read, entry: &[u8; 24]) -> io::Resu
 
 fn main(rt: HostRuntime) -> io::Result<()> {
     for_each(
-        &mut rt.reader(),
+        &mut rt.stdin(),
         |input, entry: [u8; 24]| run_one(&rt, input, &entry),
     )
 }

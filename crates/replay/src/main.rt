@@ -31,7 +31,7 @@ fn replay_one(rt: &impl Print, input: &mut impl Read, name: &[u8; 40]) -> io::Re
 
 fn main(rt: HostRuntime) -> io::Result<()> {
     for_each(
-        &mut rt.reader(),
+        &mut rt.stdin(),
         |input, name: [u8; 40]| replay_one(&rt, input, &name),
     )
 }

@@ -47,7 +47,7 @@ fn run_one(rt: &impl Print, input: &mut impl Read, name: &[u8; 40]) -> io::Resul
 
 fn main(rt: HostRuntime) -> io::Result<()> {
     for_each(
-        &mut rt.reader(),
+        &mut rt.stdin(),
         |input, name: [u8; 40]| run_one(&rt, input, &name),
     )
 }

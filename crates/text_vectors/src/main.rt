@@ -36,5 +36,5 @@ fn run_one(rt: &impl Print, v: &[u8; 192]) -> io::Result<()> {
 }
 
 fn main(rt: HostRuntime) -> io::Result<()> {
-    for_each(&mut rt.reader(), |_, v: [u8; 192]| run_one(&rt, &v))
+    for_each(&mut rt.stdin(), |_, v: [u8; 192]| run_one(&rt, &v))
 }

@@ -6,5 +6,5 @@ use printing::print_trace;
 use std::io;
 
 fn main(rt: HostRuntime) -> io::Result<()> {
-    print_trace(&rt, &mut rt.reader())
+    print_trace(&rt, &mut rt.stdin())
 }
