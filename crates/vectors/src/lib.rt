@@ -1,8 +1,9 @@
 // What the programs that run vectors share: the loop over the vectors of an input, and a vector's name and numbers.
 #![tactic(auto)]
 
-ghost use Rattle.std.specs.Prelude.{◌≡◌, ◌+◌, ◌≤◌, length, slice_range};
+ghost use Rattle.std.specs.Prelude.{◌≡◌, ℕ, ◌+◌, ◌/◌, ◌<◌, ◌≤◌, [], length, slice_index, slice_index_or, slice_range};
 ghost use Rattle.std.specs.Int.{from_be_bytes, w32};
+ghost use Rattle.std.specs.Simd.{first_chunks};
 
 use std::io;
 use std::io::Read;
@@ -49,11 +50,14 @@ pub fn number_at(bytes: &[u8], at: usize) -> u32
 }
 
 // The first K numbers of four bytes, highest byte first; zeros where the bytes end before.
-pub fn numbers<const K: usize>(bytes: &[u8]) -> [u32; K] {
+pub fn numbers<const K: usize>(bytes: &[u8]) -> [u32; K]
+    ensures { (k : ℕ) → k < K → k < length bytes.now / 4 → slice_index result k
+        ≡ from_be_bytes w32 (slice_index_or (first_chunks 4 (length bytes.now / 4) bytes.now) k []) }
+{
     let mut numbers = [0u32; K];
     let (quads, _) = bytes.as_chunks::<4>();
-    for (number, quad) in numbers.iter_mut().zip(quads) {
-        *number = u32::from_be_bytes(*quad);
+    for k in 0..quads.len().min(K) {
+        numbers[k] = u32::from_be_bytes(quads[k]);
     }
     numbers
 }
