@@ -9,6 +9,7 @@ mod leaf;
 mod vector;
 
 use answer::answer;
+use pipe::Pipe;
 use std::io;
 use vectors::{for_each, put_name};
 
@@ -18,6 +19,7 @@ fn run_one(rt: &impl Print, v: &[u8; 192]) -> io::Result<()> {
     println!(rt; "")
 }
 
-fn main(rt: HostRuntime) -> io::Result<()> {
-    for_each(&mut rt.stdin(), |_, v: [u8; 192]| run_one(&rt, &v))
+fn main() {
+    // `Pipe` fails at nothing
+    let _ = for_each(&mut Pipe, |_, v: [u8; 192]| run_one(&Pipe, &v));
 }

@@ -7,6 +7,7 @@
 mod vector;
 
 use facts::Records;
+use pipe::Pipe;
 use std::io;
 use vector::{count, table, used};
 use vectors::{for_each, put_name};
@@ -35,6 +36,7 @@ fn run_one(rt: &impl Print, v: &[u8; 576]) -> io::Result<()> {
     println!(rt; "")
 }
 
-fn main(rt: HostRuntime) -> io::Result<()> {
-    for_each(&mut rt.stdin(), |_, v: [u8; 576]| run_one(&rt, &v))
+fn main() {
+    // `Pipe` fails at nothing
+    let _ = for_each(&mut Pipe, |_, v: [u8; 576]| run_one(&Pipe, &v));
 }

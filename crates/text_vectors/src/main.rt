@@ -8,6 +8,7 @@
 mod report;
 mod vector;
 
+use pipe::Pipe;
 use report::{fill, report};
 use std::io;
 use vector::{expand, room};
@@ -35,6 +36,7 @@ fn run_one(rt: &impl Print, v: &[u8; 192]) -> io::Result<()> {
     println!(rt; "")
 }
 
-fn main(rt: HostRuntime) -> io::Result<()> {
-    for_each(&mut rt.stdin(), |_, v: [u8; 192]| run_one(&rt, &v))
+fn main() {
+    // `Pipe` fails at nothing
+    let _ = for_each(&mut Pipe, |_, v: [u8; 192]| run_one(&Pipe, &v));
 }

@@ -2,9 +2,10 @@
 // there is none.
 #![tactic(auto)]
 
+use pipe::Pipe;
 use printing::print_trace;
-use std::io;
 
-fn main(rt: HostRuntime) -> io::Result<()> {
-    print_trace(&rt, &mut rt.stdin())
+fn main() {
+    // `Pipe` fails at nothing
+    let _ = print_trace(&Pipe, &mut Pipe);
 }
