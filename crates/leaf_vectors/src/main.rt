@@ -5,32 +5,21 @@
 #![tactic(auto)]
 
 mod answer;
+mod leaf;
 mod vector;
 
 use answer::answer;
-use vectors::{STDIN_FILENO, put, put_name};
+use pipe::Pipe;
+use std::io;
+use vectors::{for_each, put_name};
 
-// One vector; false at the end of the input.
-fn run_one() -> bool {
-    let mut v = [0u8; 192];
-    let got = io::read_full(STDIN_FILENO, &mut v);
-    if got < 192 {
-        return false;
-    }
-    let length = v[43];
-    put_name(&v, length);
-    answer(&v);
-    put(b"\n");
-    true
+fn run_one(rt: &impl Print, v: &[u8; 192]) -> io::Result<()> {
+    put_name(rt, &v[..40], usize::from(v[43]))?;
+    answer(rt, v)?;
+    println!(rt; "")
 }
 
 fn main() {
-    // more turns than any list of vectors takes
-    let mut turns: u32 = 1_000_000;
-    while 0 < turns {
-        if !run_one() {
-            return;
-        }
-        turns -= 1;
-    }
+    // `Pipe` fails at nothing
+    let _ = for_each(&mut Pipe, |_, v: [u8; 192]| run_one(&Pipe, &v));
 }

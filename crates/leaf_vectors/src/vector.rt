@@ -1,34 +1,27 @@
 // The fields of a vector.
-ghost use Rattle.std.specs.Prelude.{◌≤◌, ◌<◌};
+ghost use Rattle.std.specs.Prelude.{◌+◌, ◌≤◌, length};
 
-use vectors::wide;
+use crate::leaf::{Leaf, NoSuchKind};
+use vectors::{number_at, numbers};
 use word::U256;
 use word::numbers::from_numbers;
 
-pub const CODE: usize = 112;
+// Where the code begins.
+const CODE: usize = 112;
 
-pub fn kind(v: &[u8; 192]) -> u8 {
-    v[40]
+// The most bytes of the code.
+const CODE_MAX: usize = 80;
+
+pub fn leaf(v: &[u8; 192]) -> Result<Leaf, NoSuchKind> {
+    Leaf::try_from(v[40])
 }
 
-pub fn code_length(v: &[u8; 192]) -> usize
-    ensures { result ≤ 80 }
-{
-    let n = wide(v[41]) as usize;
-    if n < 80 { n } else { 80 }
+pub fn code(v: &[u8; 192]) -> &[u8] {
+    &v[CODE..CODE + usize::from(v[41]).min(CODE_MAX)]
 }
 
 pub fn flag(v: &[u8; 192]) -> bool {
     v[42] == 1
-}
-
-fn number_at(v: &[u8; 192], at: usize) -> u32
-    requires { at < 180 }
-{
-    wide(v[at]) * 0x100_0000
-        + wide(v[at + 1]) * 0x1_0000
-        + wide(v[at + 2]) * 0x100
-        + wide(v[at + 3])
 }
 
 pub fn number(v: &[u8; 192]) -> u32 {
@@ -36,19 +29,9 @@ pub fn number(v: &[u8; 192]) -> u32 {
 }
 
 fn word_at(v: &[u8; 192], at: usize) -> U256
-    requires { at < 100 }
+    requires { at + 32 ≤ length v.now }
 {
-    let numbers = [
-        number_at(v, at),
-        number_at(v, at + 4),
-        number_at(v, at + 8),
-        number_at(v, at + 12),
-        number_at(v, at + 16),
-        number_at(v, at + 20),
-        number_at(v, at + 24),
-        number_at(v, at + 28),
-    ];
-    from_numbers(&numbers, 0)
+    from_numbers(&numbers::<8>(&v[at..]), 0)
 }
 
 pub fn first_word(v: &[u8; 192]) -> U256 {

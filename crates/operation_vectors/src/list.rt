@@ -1,61 +1,91 @@
 // One list of operations on a fresh table.
-ghost use Rattle.std.specs.Prelude.{◌≤◌};
+ghost use Rattle.std.specs.Prelude.{◌≤◌, IfOk, IfSome};
 ghost use Rattle.limits.specs.Limits.{records_max};
 ghost use Rattle.paths.specs.Shape.{Shaped};
 
+use crate::operation::Operation;
 use crate::perform::perform;
-use crate::report::{put_records, show, tell};
+use crate::report::{put_records, tell};
 use facts::Records;
 use limits::RECORD_WIDTH;
-use vectors::{STDIN_FILENO, put};
+use std::io;
+use std::io::Read;
+use vectors::{Vector, numbers};
 
-// The next operation, at most the ones of standard input; answers how many records are used then.
-fn run_next(table: &mut [u32], n: u32, used: u32) -> u32
+// The next operation, at most the ones of the input; answers how many records are used then.
+fn run_next(
+    rt: &impl Print,
+    input: &mut impl Read,
+    table: &mut [u32],
+    n: u32,
+    used: u32,
+) -> io::Result<u32>
     requires shaped { Shaped table.old used n }
     requires n_le_records_max { n ≤ records_max }
-    ensures { Shaped table.new result n }
+    ensures { IfOk result (λ reached. Shaped table.new reached n) }
 {
-    let mut e = [0u8; 24];
-    let got = io::read_full(STDIN_FILENO, &mut e);
-    if got < 24 {
-        return used;
-    }
-    let reached = perform(table, n, used, &e);
-    tell(table, n, reached);
-    reached
+    let Ok(bytes) = <[u8; 24]>::read(input) else {
+        return Ok(used);
+    };
+    let entry = numbers(&bytes);
+    let (answer, reached) = perform(table, n, used, Operation::from(entry));
+    print!(rt; " {}{answer}", entry[0])?;
+    tell(rt, table, n, reached)?;
+    Ok(reached)
 }
 
-fn run_operations(table: &mut [u32], n: u32, count: u32)
+fn run_operations(
+    rt: &impl Print,
+    input: &mut impl Read,
+    table: &mut [u32],
+    n: u32,
+    count: u32,
+) -> io::Result<()>
     requires shaped { Shaped table.old 1 n }
     requires n_le_records_max { n ≤ records_max }
 {
     let mut used: u32 = 1;
-    let mut i: u32 = 0;
-    while i < count {
-        used = run_next(table, n, used);
-        i += 1;
+    for _ in 0..count {
+        used = run_next(rt, input, table, n, used)?;
     }
-    put_records(table, n, used);
+    put_records(rt, table, n, used)
 }
 
-fn run_list(table: &mut [u32], count: u32) {
+// How many records the fresh table has, if the call takes it.
+fn fresh(table: &mut [u32]) -> Option<u32>
+    ensures { IfSome result (λ n. Shaped table.new 1 n × (n ≤ records_max)) }
+{
     let records = facts::fresh(table);
     let Records::Count(n) = records else {
-        put(b" refused 1\n");
-        return;
+        return None;
     };
-    show(n);
-    put(b"\n");
-    run_operations(table, n, count);
+    Some(n)
+}
+
+fn run_list(
+    rt: &impl Print,
+    input: &mut impl Read,
+    table: &mut [u32],
+    count: u32,
+) -> io::Result<()> {
+    let Some(n) = fresh(table) else {
+        return println!(rt; " refused 1");
+    };
+    println!(rt; " {n}")?;
+    run_operations(rt, input, table, n, count)
 }
 
 // The list on the first records of the table.
-pub fn run_part(table: &mut [u32], records: u32, count: u32) {
-    put(b"list of");
-    let numbers = records as usize * RECORD_WIDTH;
-    if table.len() < numbers {
-        put(b" too many records\n");
-        return;
+pub fn run_part(
+    rt: &impl Print,
+    input: &mut impl Read,
+    table: &mut [u32],
+    records: u32,
+    count: u32,
+) -> io::Result<()> {
+    print!(rt; "list of")?;
+    match table.get_mut(..records as usize * RECORD_WIDTH) {
+        Some(part) => run_list(rt, input, part, count),
+        None => println!(rt; " too many records"),
     }
-    run_list(&mut table[0..numbers], count);
 }

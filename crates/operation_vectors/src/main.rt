@@ -2,42 +2,35 @@
 // number, its answer or `skipped`, how many records are used then, and whether the table is sound; and all used records
 // after each list. An entry is 24 bytes: six numbers of 32 bits, highest byte first. A list begins with an entry of a
 // zero, how many records its table has and how many operations follow; each of them is an entry of the operation's
-// number (ops.rt) and its arguments. tools/operation_vectors.py makes the lists, and the answers from a model of its
+// number (operation.rt) and its arguments. tools/operation_vectors.py makes the lists, and the answers from a model of its
 // own.
 #![tactic(auto)]
 
+mod answer;
 mod ask;
 mod change;
-mod entry;
 mod list;
-mod ops;
+mod operation;
 mod perform;
 mod report;
 
-use entry::argument;
 use limits::input::TRACE_NUMBERS;
 use list::run_part;
-use vectors::STDIN_FILENO;
+use pipe::Pipe;
+use std::io;
+use std::io::Read;
+use vectors::{for_each, numbers};
 
-// One list; false at the end of the input.
-fn run_one() -> bool {
-    let mut e = [0u8; 24];
-    let got = io::read_full(STDIN_FILENO, &mut e);
-    if got < 24 {
-        return false;
-    }
+fn run_one(rt: &impl Print, input: &mut impl Read, entry: &[u8; 24]) -> io::Result<()> {
+    let [_, records, count, _, _, _]: [u32; 6] = numbers(entry);
     let mut table = [0u32; TRACE_NUMBERS];
-    run_part(&mut table, argument(&e, 1), argument(&e, 2));
-    true
+    run_part(rt, input, &mut table, records, count)
 }
 
 fn main() {
-    // more turns than any list of vectors takes
-    let mut turns: u32 = 1_000_000;
-    while 0 < turns {
-        if !run_one() {
-            return;
-        }
-        turns -= 1;
-    }
+    // `Pipe` fails at nothing
+    let _ = for_each(
+        &mut Pipe,
+        |input, entry: [u8; 24]| run_one(&Pipe, input, &entry),
+    );
 }

@@ -3,117 +3,74 @@ ghost use Rattle.std.specs.Prelude.{◌≤◌};
 ghost use Rattle.limits.specs.Limits.{records_max};
 ghost use Rattle.paths.specs.Shape.{Shaped};
 
-use crate::ask::{ask_child, ask_words};
-use crate::change::change_child;
-use crate::entry::argument;
-use crate::ops::{
-    ARRAYS_IN_PATH, CLEAR_RANGE_HINT, FILL, HAS_RANGE_HINT, INSERT_NOT_BOOL, MAKE_SEEN, SET_ARRAY,
-    SET_DYNAMIC,
-};
-use crate::report::{show, skip};
+use crate::answer::Answer;
+use crate::ask::ask;
+use crate::change::change;
+use crate::operation::{Child, Operation, Visit};
 
 // The most words of a fill.
 const WORDS_MAX: u32 = 4096;
 
-fn clear(table: &mut [u32], n: u32, used: u32, p: u32, k: u32, block: u32)
+fn clear(table: &mut [u32], n: u32, used: u32, child: Child, block: u32) -> Answer
     requires { Shaped table.old used n }
     ensures { Shaped table.new used n }
 {
-    if p < 1 {
-        skip();
-        return;
+    let Child { parent, key } = child;
+    if parent < 1 || used < parent || 1 < block {
+        return Answer::Skipped;
     }
-    if used < p {
-        skip();
-        return;
-    }
-    if 1 < block {
-        skip();
-        return;
-    }
-    marks::clear_range_hint(table, n, used, p, k, block);
+    marks::clear_range_hint(table, n, used, parent, key, block);
+    Answer::Done
 }
 
-fn change_record(table: &mut [u32], n: u32, used: u32, op: u32, r: u32, count: u32)
-    requires shaped { Shaped table.old used n }
-    requires le_r { (1 ≤ r) × (r ≤ used) }
-    ensures { Shaped table.new used n }
-{
-    if op == MAKE_SEEN {
-        paths::make_seen(table, n, used, r);
-        return;
-    }
-    if op == SET_DYNAMIC {
-        kinds::set_dynamic(table, n, used, r, count);
-        return;
-    }
-    if op == SET_ARRAY {
-        kinds::set_array(table, n, used, r, count);
-        return;
-    }
-    show(kinds::arrays_in_path(table, n, used, r));
-}
-
-fn at_record(table: &mut [u32], n: u32, used: u32, op: u32, r: u32, count: u32)
+fn visit(table: &mut [u32], n: u32, used: u32, visit: Visit, r: u32) -> Answer
     requires { Shaped table.old used n }
     ensures { Shaped table.new used n }
 {
-    if r < 1 {
-        skip();
-        return;
+    if r < 1 || used < r {
+        return Answer::Skipped;
     }
-    if used < r {
-        skip();
-        return;
+    match visit {
+        Visit::MakeSeen => paths::make_seen(table, n, used, r),
+        Visit::SetDynamic { count } => kinds::set_dynamic(table, n, used, r, count),
+        Visit::SetArray { count } => kinds::set_array(table, n, used, r, count),
+        Visit::ArraysInPath => return Answer::Number(kinds::arrays_in_path(table, n, used, r)),
     }
-    change_record(table, n, used, op, r, count);
+    Answer::Done
 }
 
-fn fill_words(table: &mut [u32], n: u32, used: u32, op: u32, words: u32) -> u32
+fn fill(table: &mut [u32], n: u32, used: u32, words: u32) -> (Answer, u32)
     requires shaped { Shaped table.old used n }
     requires n_le_records_max { n ≤ records_max }
-    ensures { Shaped table.new result n }
+    ensures { Shaped table.new result.1 n }
+{
+    if WORDS_MAX < words || n < used + kinds::fill_missing(table, n, used, words) {
+        return (Answer::Skipped, used);
+    }
+    (Answer::Done, kinds::fill(table, n, used, words))
+}
+
+fn fill_missing(table: &[u32], n: u32, used: u32, words: u32) -> Answer
+    requires { Shaped table.now used n }
 {
     if WORDS_MAX < words {
-        skip();
-        return used;
+        return Answer::Skipped;
     }
-    if op != FILL {
-        ask_words(table, n, used, words);
-        return used;
-    }
-    if n < used + kinds::fill_missing(table, n, used, words) {
-        skip();
-        return used;
-    }
-    kinds::fill(table, n, used, words)
+    Answer::Number(kinds::fill_missing(table, n, used, words))
 }
 
-// Answers how many records are used then.
-pub fn perform(table: &mut [u32], n: u32, used: u32, e: &[u8; 24]) -> u32
+// What the operation answers, and how many records are used then.
+pub fn perform(table: &mut [u32], n: u32, used: u32, operation: Operation) -> (Answer, u32)
     requires shaped { Shaped table.old used n }
     requires n_le_records_max { n ≤ records_max }
-    ensures { Shaped table.new result n }
+    ensures { Shaped table.new result.1 n }
 {
-    let op = argument(e, 0);
-    let a = argument(e, 1);
-    let b = argument(e, 2);
-    let c = argument(e, 3);
-    show(op);
-    if op <= HAS_RANGE_HINT {
-        ask_child(table, n, used, op, a, b);
-        return used;
+    match operation {
+        Operation::Ask(question, child) => (ask(table, n, used, question, child), used),
+        Operation::Change(what, child) => change(table, n, used, what, child),
+        Operation::ClearRangeHint(child, block) => (clear(table, n, used, child, block), used),
+        Operation::Visit(what, record) => (visit(table, n, used, what, record), used),
+        Operation::Fill(words) => fill(table, n, used, words),
+        Operation::FillMissing(words) => (fill_missing(table, n, used, words), used),
     }
-    if op <= INSERT_NOT_BOOL {
-        return change_child(table, n, used, op, a, b, c, argument(e, 4));
-    }
-    if op == CLEAR_RANGE_HINT {
-        clear(table, n, used, a, b, c);
-        return used;
-    }
-    if op <= ARRAYS_IN_PATH {
-        at_record(table, n, used, op, a, b);
-        return used;
-    }
-    fill_words(table, n, used, op, a)
 }

@@ -5,48 +5,32 @@ ghost use Rattle.facts.specs.Access.{HasRecord};
 ghost use Rattle.paths.specs.Shape.{Shaped};
 
 use limits::RECORD_WIDTH;
-use vectors::{put, put_number};
-
-pub fn show(n: u32) {
-    put_number(n as u64);
-}
-
-pub fn skip() {
-    put(b" skipped");
-}
+use std::io;
 
 // How many records are used, and whether the table is sound.
-pub fn tell(table: &[u32], n: u32, used: u32)
+pub fn tell(rt: &impl Print, table: &[u32], n: u32, used: u32) -> io::Result<()>
     requires shaped { Shaped table.now used n }
     requires n_le_records_max { n ≤ records_max }
 {
-    put(b"; used");
-    show(used);
-    if facts::is_sound(table, n, used) {
-        put(b" sound\n");
-    } else {
-        put(b" unsound\n");
-    }
+    let sound = facts::is_sound(table, n, used);
+    println!(rt; "; used {used} {}", if sound { "sound" } else { "unsound" })
 }
 
-fn put_record(table: &[u32], r: u32)
+fn put_record(rt: &impl Print, table: &[u32], r: u32) -> io::Result<()>
     requires { HasRecord table.now r }
 {
-    let mut f = 0;
-    while f < RECORD_WIDTH {
-        show(facts::field(table, r, f));
-        f += 1;
+    for f in 0..RECORD_WIDTH {
+        print!(rt; " {}", facts::field(table, r, f))?;
     }
-    put(b"\n");
+    println!(rt; "")
 }
 
-pub fn put_records(table: &[u32], n: u32, used: u32)
+pub fn put_records(rt: &impl Print, table: &[u32], n: u32, used: u32) -> io::Result<()>
     requires shaped { Shaped table.now used n }
     requires n_le_records_max { n ≤ records_max }
 {
-    let mut r: u32 = 1;
-    while r <= used {
-        put_record(table, r);
-        r += 1;
+    for r in 1..=used {
+        put_record(rt, table, r)?;
     }
+    Ok(())
 }

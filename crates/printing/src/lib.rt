@@ -6,21 +6,22 @@
 mod answer;
 mod group;
 mod run;
-mod source;
 
-use head::Head;
 pub use run::print_trace;
-pub use source::{Runs, Source, skip};
+use std::io;
 
-// The numbers of standard input and output, which `io` reads and writes by.
-pub const STDIN_FILENO: i32 = 0;
-
-pub const STDOUT_FILENO: i32 = 1;
-
-// What a group leaves: the steps go on, or a line was written and they stop.
+// What ends a trace before its closing.
 #[derive(Clone, Copy)]
-pub struct Walk {
-    pub source: Source,
-    pub head: Head,
-    pub going: bool,
+enum Stop {
+    // The bytes are no trace, or end before it does.
+    BadInput,
+    // A step, from 1, was refused.
+    Refused { number: u32, step: u32 },
+}
+
+// An input that can't be read is one that ends.
+impl From<io::Error> for Stop {
+    fn from(_error: io::Error) -> Stop {
+        Stop::BadInput
+    }
 }

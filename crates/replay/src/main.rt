@@ -7,47 +7,33 @@
 // model of its own.
 #![tactic(auto)]
 
-use printing::{Runs, STDIN_FILENO, STDOUT_FILENO, Source, print_trace, skip};
+mod runs;
 
-fn put(text: &[u8]) {
-    io::write_all(STDOUT_FILENO, text);
-}
+use pipe::Pipe;
+use printing::print_trace;
+use runs::Runs;
+use std::io;
+use std::io::Read;
+use vectors::{for_each, put_name, read_number};
 
-fn read_number() -> u32 {
-    let mut b = [0u8; 4];
-    io::read_full(STDIN_FILENO, &mut b);
-    trace::number_at(&b, 0)
-}
-
-// One trace; false at the end of the input.
-fn replay_one() -> bool {
-    let mut name = [0u8; 40];
-    let got = io::read_full(STDIN_FILENO, &mut name);
-    if got < 40 {
-        return false;
+fn replay_one(rt: &impl Print, input: &mut impl Read, name: &[u8; 40]) -> io::Result<()> {
+    let n = read_number(input) as usize;
+    // a length past its field counts for none
+    if n < name.len() {
+        put_name(rt, name, n)?;
     }
-    let n = read_number() as usize;
-    if n < 40 {
-        put(&name[0..n]);
-    }
-    put(b"\n");
-    let left = read_number();
-    let rest = print_trace(Source::Short(Runs {
-        left,
-        zeros: 0,
-        given: 0,
-    }));
-    skip(rest);
-    true
+    println!(rt; "")?;
+    let left = read_number(input);
+    let mut trace = Runs::new(input, left);
+    print_trace(rt, &mut trace)?;
+    trace.skip();
+    Ok(())
 }
 
 fn main() {
-    // more turns than any list of traces takes
-    let mut turns: u32 = 1_000_000;
-    while 0 < turns {
-        if !replay_one() {
-            return;
-        }
-        turns -= 1;
-    }
+    // `Pipe` fails at nothing
+    let _ = for_each(
+        &mut Pipe,
+        |input, name: [u8; 40]| replay_one(&Pipe, input, &name),
+    );
 }

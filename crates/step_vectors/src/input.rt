@@ -1,71 +1,41 @@
-// What is read from standard input. At its end all numbers are zero.
-ghost use Rattle.std.specs.Prelude.{◌≤◌, length};
-
+// What is read from the input. At its end all numbers are zero.
 use head::Head;
-use vectors::{STDIN_FILENO, wide};
-
-pub fn read_number() -> u32 {
-    let mut b = [0u8; 4];
-    let got = io::read_full(STDIN_FILENO, &mut b);
-    if got < 4 {
-        return 0;
-    }
-    wide(b[0]) + wide(b[1]) * 0x100 + wide(b[2]) * 0x1_0000 + wide(b[3]) * 0x100_0000
-}
+use std::io::Read;
+use vectors::read_number;
 
 // The head of the step: the one handed in, unless it is replaced.
-pub fn read_head(head: Head) -> Head {
-    if read_number() == 0 {
+pub fn read_head(input: &mut impl Read, head: Head) -> Head {
+    if read_number(input) == 0 {
         return head;
     }
-    let used = read_number();
-    let active = read_number();
-    Head {
-        used: used,
-        active: active,
+    let used = read_number(input);
+    let active = read_number(input);
+    Head { used, active }
+}
+
+pub fn read_pairs(input: &mut impl Read, out: &mut [u32]) {
+    for _ in 0..read_number(input) {
+        let at = read_number(input);
+        let value = read_number(input);
+        if let Some(number) = out.get_mut(at as usize) {
+            *number = value;
+        }
     }
 }
 
-fn store(out: &mut [u32], at: usize, value: u32) {
-    if at < out.len() {
-        out[at] = value;
-    }
+// A list into zeros that are long enough.
+pub fn read_list<'a>(input: &mut impl Read, room: &'a mut [u32]) -> &'a mut [u32] {
+    let n = room.len().min(read_number(input) as usize);
+    read_pairs(input, room);
+    &mut room[..n]
 }
 
-pub fn read_pairs(out: &mut [u32]) {
-    let count = read_number();
-    let mut i: u32 = 0;
-    while i < count {
-        let at = read_number();
-        let value = read_number();
-        store(out, at as usize, value);
-        i += 1;
-    }
-}
-
-fn at_most(n: usize, most: usize) -> usize
-    ensures { result ≤ most }
-{
-    if n < most { n } else { most }
-}
-
-// A list into zeros that are long enough; answers its length.
-pub fn read_list(out: &mut [u32]) -> usize
-    ensures { result ≤ length out.new }
-{
-    let n = at_most(read_number() as usize, out.len());
-    read_pairs(out);
-    n
-}
-
-// The code into zeros that are long enough; answers its length.
-pub fn read_code(out: &mut [u8]) -> usize
-    ensures { result ≤ length out.new }
-{
-    let n = at_most(read_number() as usize, out.len());
-    let from = at_most(read_number() as usize, n);
-    let given = at_most(read_number() as usize, n - from);
-    let to = from + given;
-    io::read_full(STDIN_FILENO, &mut out[from..to]);
-    n
+// The code into zeros that are long enough.
+pub fn read_code<'a>(input: &mut impl Read, room: &'a mut [u8]) -> &'a [u8] {
+    let n = room.len().min(read_number(input) as usize);
+    let from = n.min(read_number(input) as usize);
+    let given = (n - from).min(read_number(input) as usize);
+    // what an input that ends lacks stays zero
+    let _ = input.read_exact(&mut room[from..from + given]);
+    &room[..n]
 }

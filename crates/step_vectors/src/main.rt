@@ -22,46 +22,34 @@ mod input;
 mod report;
 mod run;
 
-use input::read_number;
-use report::put_count;
+use pipe::Pipe;
 use run::run_trace;
-use vectors::{STDIN_FILENO, put};
+use std::io;
+use std::io::Read;
+use vectors::{for_each, put_name, read_number};
 
 // Numbers of one record more than the largest table, so that a table can be too long.
 const TABLE_ROOM: usize = 180235;
 
-fn run_part(table: &mut [u32], length: usize) {
-    if table.len() < length {
-        return;
+fn run_one(rt: &impl Print, input: &mut impl Read, name: &[u8; 40]) -> io::Result<()> {
+    let n = read_number(input) as usize;
+    // a length past its field counts for none
+    if n < name.len() {
+        put_name(rt, name, n)?;
     }
-    run_trace(&mut table[0..length]);
-}
-
-// One trace; false at the end of the input.
-fn run_one() -> bool {
-    let mut name = [0u8; 40];
-    let got = io::read_full(STDIN_FILENO, &mut name);
-    if got < 40 {
-        return false;
-    }
-    let n = read_number() as usize;
-    if n < 40 {
-        put(&name[0..n]);
-    }
-    let length = read_number();
-    put_count(length);
+    let length = read_number(input);
+    print!(rt; " {length}")?;
     let mut table = [0u32; TABLE_ROOM];
-    run_part(&mut table, length as usize);
-    true
+    match table.get_mut(..length as usize) {
+        Some(table) => run_trace(rt, input, table),
+        None => Ok(()),
+    }
 }
 
 fn main() {
-    // more turns than any list of traces takes
-    let mut turns: u32 = 1_000_000;
-    while 0 < turns {
-        if !run_one() {
-            return;
-        }
-        turns -= 1;
-    }
+    // `Pipe` fails at nothing
+    let _ = for_each(
+        &mut Pipe,
+        |input, name: [u8; 40]| run_one(&Pipe, input, &name),
+    );
 }

@@ -1,129 +1,59 @@
 // What is written.
-ghost use Rattle.std.specs.Prelude.{◌≤◌, ◌<◌, length};
+ghost use Rattle.std.specs.Prelude.{◌≤◌};
 
 use facts::Records;
 use head::Head;
 use limits::RECORD_WIDTH;
 use limits::layout::{ENTRY_WIDTH, SLOT_WIDTH};
-use vectors::{put, put_number};
+use std::io;
 
 // A list of more rows is written without those that are zero.
 const ROWS_MAX: usize = 64;
 
-pub fn put_count(n: u32) {
-    put_number(n as u64);
-}
-
-pub fn put_records(records: Records) {
+pub fn put_records(rt: &impl Print, records: Records) -> io::Result<()> {
     match records {
-        Records::Count(n) => {
-            put_count(n);
-        }
-        Records::Unfit => {
-            put(b" refused 1");
-        }
-    }
-    put(b"\n");
-}
-
-fn one_if_set(x: u32) -> usize
-    ensures { result ≤ 1 }
-{
-    if x == 0 { 0 } else { 1 }
-}
-
-// How many of the numbers aren't zero.
-fn count_set(list: &[u32]) -> usize {
-    let mut count = 0;
-    let mut i = 0;
-    while i < list.len() {
-        count += one_if_set(list[i]);
-        i += 1;
-    }
-    count
-}
-
-// The end of the used records, or of the table if it has fewer.
-fn used_end(used: u32, length: usize) -> usize
-    ensures { result ≤ length }
-{
-    let end = used as usize * RECORD_WIDTH;
-    if end < length { end } else { length }
-}
-
-fn put_row(letter: &[u8], number: usize, row: &[u32]) {
-    put(letter);
-    put_number(number as u64);
-    put(b":");
-    let mut i = 0;
-    while i < row.len() {
-        put_count(row[i]);
-        i += 1;
-    }
-    put(b"\n");
-}
-
-// The end of the row that begins at an index; the last one may be short.
-fn row_end(at: usize, width: usize, length: usize) -> usize
-    requires at_in_bounds { at < length }
-    requires le_width { 1 ≤ width }
-    ensures { (at < result) × (result ≤ length) }
-{
-    if length - at < width {
-        length
-    } else {
-        at + width
+        Records::Count(n) => println!(rt; " {n}"),
+        Records::Unfit => println!(rt; " refused 1"),
     }
 }
 
-// Writes a row, but for one of a long list that is zero.
-fn put_if_shown(long: bool, letter: &[u8], number: usize, row: &[u32]) {
-    if long {
-        if count_set(row) == 0 {
-            return;
-        }
+fn put_row(rt: &impl Print, letter: char, number: usize, row: &[u32]) -> io::Result<()> {
+    print!(rt; "{letter} {number}:")?;
+    for x in row {
+        print!(rt; " {x}")?;
     }
-    put_row(letter, number, row);
+    println!(rt; "")
 }
 
-// Each row of a list, with its letter and its number from 1.
-fn put_rows(letter: &[u8], width: usize, list: &[u32])
+// Each row of a list, with its letter and its number from 1, but for those of a long list that are zero. The last one
+// may be short.
+fn put_rows(rt: &impl Print, letter: char, width: usize, list: &[u32]) -> io::Result<()>
     requires { 1 ≤ width }
 {
     let long = ROWS_MAX < list.len() / width;
-    let mut number: usize = 0;
-    let mut at = 0;
-    while at < list.len() {
-        let end = row_end(at, width, list.len());
-        number += 1;
-        put_if_shown(long, letter, number, &list[at..end]);
-        at = end;
+    for (i, row) in list.chunks(width).enumerate() {
+        if !long || row.iter().any(|x| *x != 0) {
+            put_row(rt, letter, i + 1, row)?;
+        }
     }
-}
-
-pub fn put_place(number: u32) {
-    put(b"step");
-    put_count(number);
-}
-
-fn put_head(number: u32, head: Head, beyond: usize) {
-    put(b": answer");
-    put_count(number);
-    put(b" used");
-    put_count(head.used);
-    put(b" active");
-    put_count(head.active);
-    put(b" beyond");
-    put_number(beyond as u64);
-    put(b"\n");
+    Ok(())
 }
 
 // The answer, the head and how many numbers beyond the used records aren't zero; then the used records, the slots and
 // the entries.
-pub fn put_step(number: u32, head: Head, table: &[u32], stack: &[u32], memory: &[u32]) {
-    let end = used_end(head.used, table.len());
-    put_head(number, head, count_set(&table[end..]));
-    put_rows(b"r", RECORD_WIDTH, &table[0..end]);
-    put_rows(b"s", SLOT_WIDTH, stack);
-    put_rows(b"m", ENTRY_WIDTH, memory);
+pub fn put_step(
+    rt: &impl Print,
+    answer: u32,
+    head: Head,
+    table: &[u32],
+    stack: &[u32],
+    memory: &[u32],
+) -> io::Result<()> {
+    let Head { used, active } = head;
+    let end = table.len().min(used as usize * RECORD_WIDTH);
+    let beyond = table[end..].iter().filter(|x| **x != 0).count();
+    println!(rt; ": answer {answer} used {used} active {active} beyond {beyond}")?;
+    put_rows(rt, 'r', RECORD_WIDTH, &table[..end])?;
+    put_rows(rt, 's', SLOT_WIDTH, stack)?;
+    put_rows(rt, 'm', ENTRY_WIDTH, memory)
 }

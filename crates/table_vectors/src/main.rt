@@ -7,62 +7,36 @@
 mod vector;
 
 use facts::Records;
-use vector::{count, read_table, used};
-use vectors::{STDIN_FILENO, put};
+use pipe::Pipe;
+use std::io;
+use vector::{count, table, used};
+use vectors::{for_each, put_name};
 
-fn put_name(v: &[u8], length: u8) {
-    let n = vectors::wide(length) as usize;
-    if n < 40 {
-        if 40 <= v.len() {
-            put(&v[0..n]);
-        }
-    }
-}
-
-fn answer(table: &[u32], used: u32) {
+fn answer(table: &[u32], used: u32) -> &'static str {
     let records = facts::record_count(table.len());
     let Records::Count(n) = records else {
-        put(b" refused 1");
-        return;
+        return "refused 1";
     };
     if facts::is_sound(table, n, used) {
-        put(b" taken");
+        "taken"
     } else {
-        put(b" refused 2");
+        "refused 2"
     }
 }
 
-fn run_vector(v: &[u8; 576], table: &mut [u32]) {
-    let n = count(v);
-    read_table(v, table);
-    if table.len() < n {
-        return;
+fn run_one(rt: &impl Print, v: &[u8; 576]) -> io::Result<()> {
+    // a length past its field counts for none
+    let length = usize::from(v[40]);
+    if length < 40 {
+        put_name(rt, &v[..40], length)?;
     }
-    answer(&table[0..n], used(v));
-}
-
-// One vector; false at the end of the input.
-fn run_one() -> bool {
-    let mut v = [0u8; 576];
-    let got = io::read_full(STDIN_FILENO, &mut v);
-    if got < 576 {
-        return false;
+    if let Some(table) = table(v).get(..count(v)) {
+        print!(rt; " {}", answer(table, used(v)))?;
     }
-    let length = v[40];
-    put_name(&v, length);
-    let mut table = [0u32; 132];
-    run_vector(&v, &mut table);
-    put(b"\n");
-    true
+    println!(rt; "")
 }
 
 fn main() {
-    // more turns than any list of vectors takes
-    let mut turns: u32 = 1_000_000;
-    while 0 < turns {
-        if !run_one() {
-            return;
-        }
-        turns -= 1;
-    }
+    // `Pipe` fails at nothing
+    let _ = for_each(&mut Pipe, |_, v: [u8; 576]| run_one(&Pipe, &v));
 }

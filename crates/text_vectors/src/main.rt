@@ -8,47 +8,35 @@
 mod report;
 mod vector;
 
+use pipe::Pipe;
 use report::{fill, report};
+use std::io;
 use vector::{expand, room};
-use vectors::{STDIN_FILENO, put, put_name};
+use vectors::{for_each, put_name};
 
-fn run_vector(v: &[u8; 192], codes: &mut [u16], out: &mut [u8]) {
-    let n = expand(v, codes);
-    let m = room(v);
-    if codes.len() < n {
-        return;
-    }
-    if out.len() < m {
-        return;
-    }
-    let answer = text::text(&codes[0..n], &mut out[0..m]);
-    report(answer, out);
+// The call for a vector whose codes fit, on a slice that is filled first, with a number that goes by the place.
+fn call(rt: &impl Print, v: &[u8; 192], codes: &mut [u16], out: &mut [u8]) -> io::Result<()> {
+    fill(out);
+    let Some(n) = expand(v, codes) else {
+        return Ok(());
+    };
+    let Some(given) = codes.get(..n) else {
+        return Ok(());
+    };
+    let Some(lent) = out.get_mut(..room(v)) else {
+        return Ok(());
+    };
+    let answer = text::text(given, lent);
+    report(rt, answer, out)
 }
 
-// One vector; false at the end of the input. The slice is filled first, with a number that goes by the place.
-fn run_one() -> bool {
-    let mut v = [0u8; 192];
-    let got = io::read_full(STDIN_FILENO, &mut v);
-    if got < 192 {
-        return false;
-    }
-    let mut codes = [0u16; 8200];
-    let mut out = [0u8; 65536];
-    fill(&mut out);
-    let length = v[40];
-    put_name(&v, length);
-    run_vector(&v, &mut codes, &mut out);
-    put(b"\n");
-    true
+fn run_one(rt: &impl Print, v: &[u8; 192]) -> io::Result<()> {
+    put_name(rt, &v[..40], usize::from(v[40]))?;
+    call(rt, v, &mut [0; 8200], &mut [0; 65536])?;
+    println!(rt; "")
 }
 
 fn main() {
-    // more turns than any list of vectors takes
-    let mut turns: u32 = 1_000_000;
-    while 0 < turns {
-        if !run_one() {
-            return;
-        }
-        turns -= 1;
-    }
+    // `Pipe` fails at nothing
+    let _ = for_each(&mut Pipe, |_, v: [u8; 192]| run_one(&Pipe, &v));
 }

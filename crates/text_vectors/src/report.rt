@@ -1,14 +1,15 @@
 // One line's end for an answer.
 use limits::Refusal;
-use vectors::{STDOUT_FILENO, put, put_number};
+use std::io;
+
+// The longest text that is written itself.
+const SHOWN_MAX: usize = 120;
 
 // A sum over bytes and places, to tell long texts apart.
 fn sum(out: &[u8]) -> u64 {
     let mut s: u64 = 0;
-    let mut i = 0;
-    while i < out.len() {
-        s = (s * 31 + out[i] as u64) % 1_000_000_007;
-        i += 1;
+    for b in out {
+        s = (s * 31 + u64::from(*b)) % 1_000_000_007;
     }
     s
 }
@@ -19,54 +20,40 @@ fn filling(i: usize) -> u8 {
 }
 
 pub fn fill(out: &mut [u8]) {
-    let mut i = 0;
-    while i < out.len() {
-        out[i] = filling(i);
-        i += 1;
+    for (i, b) in out.iter_mut().enumerate() {
+        *b = filling(i);
     }
 }
 
 // Are all bytes from an index on as they were filled?
-fn kept(out: &[u8], from: usize) -> bool {
-    let mut i = from;
-    while i < out.len() {
-        if out[i] != filling(i) {
-            return false;
-        }
-        i += 1;
-    }
-    true
+fn put_kept(rt: &impl Print, out: &[u8], from: usize) -> io::Result<()> {
+    let kept = out
+        .iter()
+        .enumerate()
+        .skip(from)
+        .all(|(i, b)| *b == filling(i));
+    print!(rt; " {}", if kept { "kept" } else { "CHANGED" })
 }
 
-fn put_kept(out: &[u8], from: usize) {
-    if kept(out, from) {
-        put(b" kept");
+fn put_text(rt: &impl Print, out: &[u8], n: usize) -> io::Result<()> {
+    let Some(text) = out.get(..n) else {
+        return Ok(());
+    };
+    print!(rt; " {n} ")?;
+    if n <= SHOWN_MAX {
+        rt.write_all(text)?;
     } else {
-        put(b" CHANGED");
+        print!(rt; "{}", sum(text))?;
     }
+    put_kept(rt, out, n)
 }
 
-fn put_text(out: &[u8], n: usize) {
-    if out.len() < n {
-        return;
-    }
-    put_number(n as u64);
-    put(b" ");
-    if n <= 120 {
-        put(&out[0..n]);
-    } else {
-        io::print_decimal(STDOUT_FILENO, sum(&out[0..n]));
-    }
-    put_kept(out, n);
-}
-
-pub fn report(answer: Result<usize, Refusal>, out: &[u8]) {
+pub fn report(rt: &impl Print, answer: Result<usize, Refusal>, out: &[u8]) -> io::Result<()> {
     match answer {
-        Ok(length) => put_text(out, length),
+        Ok(n) => put_text(rt, out, n),
         Err(refusal) => {
-            put(b" refused");
-            put_number(u64::from(u32::from(refusal)));
-            put_kept(out, 0);
+            print!(rt; " refused {}", u32::from(refusal))?;
+            put_kept(rt, out, 0)
         }
     }
 }

@@ -2,8 +2,10 @@
 // there is none.
 #![tactic(auto)]
 
-use printing::{Source, print_trace};
+use pipe::Pipe;
+use printing::print_trace;
 
 fn main() {
-    print_trace(Source::Plain);
+    // `Pipe` fails at nothing
+    let _ = print_trace(&Pipe, &mut Pipe);
 }
