@@ -1,7 +1,7 @@
 -- A record that is not seen, and a fact with no child and no kind, have one code.
 use Prim.Native.Nat.{ℕ, ◌*◌, ◌≤◌}
 use mathlib.Core.Path.{◌≡◌, refl, sym, ap, ◌∙◌}
-use mathlib.Core.Bool.{Bool, true, false, cond, not, ◌&&◌}
+use mathlib.Core.Bool.{Bool, true, false, cond, not, ◌&&◌, ◌||◌, true≢false}
 use mathlib.Core.List.{List, [], ◌∷◌, ◌++◌}
 use native.Mathlib.Omega.{arith}
 use native.Mathlib.Decide.{ℕ_discrete}
@@ -34,13 +34,9 @@ use Rattle.type_walk.specs.Plan.{plan, word_code, open_plan, kind_plan, plan_of,
 use Rattle.type_walk.proofs.PlanLaws.{lead_some, codes_plan}
 use Rattle.type_walk.proofs.BoundLaws.{name_bound}
 
-not_false : (b : Bool) → not b ≡ false → b ≡ true
-not_false true e = refl
-not_false false e = sym e
-
-not_true : (b : Bool) → not b ≡ true → b ≡ false
-not_true true e = sym e
-not_true false e = refl
+-- a key that no word comes to
+abbrev pub key_end : ℕ
+key_end = 4294967295
 
 -- "Count is 1 to 99 for an array, at most 134,217,727 for dynamic, else 0."
 count_none : (n : Node) → is_record n ≡ true → n.kind ≡ 0 → n.count ≡ 0
@@ -129,27 +125,42 @@ module _ (t : List ℕ) (u N c : ℕ) (S : Sound t u N) (c1 : 1 ≤ c) (cu : c �
       go (no n) = rw (kids_nodes t u c, (tail_more t u c h (kids_of t u c) start n).is, ne_eqb h 0 n) refl
 
   -- what the code answers
-  module _ (w : ℕ) (we : w ≡ seen_of t c) where
-    pub leaf_unseen : (w ≡ 1 → ⊥) → word_code ≡ leaf_code (nodes t u) c
+  leaf_unseen : (seen_of t c ≡ 1 → ⊥) → word_code ≡ leaf_code (nodes t u) c
+  unfolding leaf_code
+  leaf_unseen n = sym (rw (node_is, ne_eqb (seen_of t c) 1 n) refl)
+
+  leaf_is : seen_of t c ≡ 1 → leaf_code (nodes t u) c
+      ≡ cond (eqb (child_of t c) 0 && eqb (kind_of t c) 0) (cond (eqb (name_of t c) code.no_name) word_code (name_of t c)) 0
+  unfolding leaf_code
+  leaf_is w1 = rw (kids_empty (child_of t c) refl, node_is, eq-eqb (seen_of t c) 1 w1) refl
+
+  -- by the child and the kind that the code reads
+  module _ (h k : ℕ) (he : h ≡ child_of t c) (ke : k ≡ (node_of (nodes t u) c).kind) (b : Bool) (seen : b ≡ eqb (node_of (nodes t u) c).seen 1)
+      (bt : b ≡ true) where
+    leaf_by : leaf_code (nodes t u) c
+        ≡ cond (eqb h 0 && eqb k 0) (cond (eqb (node_of (nodes t u) c).name code.no_name) word_code (node_of (nodes t u) c).name) 0
     unfolding leaf_code
-    leaf_unseen n = sym (rw (node_is, ← we, ne_eqb w 1 n) refl)
+    leaf_by = rw (kids_empty h he, ← ke, ← seen, bt) refl
 
-    module _ (w1 : w ≡ 1) where
-      leaf_is : (h k v : ℕ) → h ≡ child_of t c → k ≡ kind_of t c → v ≡ name_of t c
-          → leaf_code (nodes t u) c ≡ cond (eqb h 0 && eqb k 0) (cond (eqb v code.no_name) word_code v) 0
-      unfolding leaf_code
-      leaf_is h k v he ke e = rw (kids_empty h he, node_is, ← ke, ← e, ← we, eq-eqb w 1 w1) refl
+    pub leaf_else : (not (eqb h 0) || not (eqb k 0)) ≡ true → 0 ≡ leaf_code (nodes t u) c
+    leaf_else q = sym (leaf_by ∙ none (eqb h 0) (eqb k 0) _ q)
+      where
+        none : (a d : Bool) (x : ℕ) → (not a || not d) ≡ true → cond (a && d) x 0 ≡ 0
+        none true true x q = absurd (true≢false (sym q))
+        none true false x q = refl
+        none false d x q = refl
 
-      module _ (h k : ℕ) (he : h ≡ child_of t c) (ke : k ≡ kind_of t c) where
-        pub leaf_else : not (eqb h 0 && eqb k 0) ≡ true → 0 ≡ leaf_code (nodes t u) c
-        leaf_else q = sym (leaf_is h k (name_of t c) he ke refl ∙ rw (not_true (eqb h 0 && eqb k 0) q) refl)
+    module _ (q : (not (eqb h 0) || not (eqb k 0)) ≡ false) (v : ℕ) (e : v ≡ (node_of (nodes t u) c).name) where
+      some : (a d : Bool) (x : ℕ) → (not a || not d) ≡ false → cond (a && d) x 0 ≡ x
+      some true true x q = refl
+      some true false x q = absurd (true≢false q)
+      some false d x q = absurd (true≢false q)
 
-        module _ (q : not (eqb h 0 && eqb k 0) ≡ false) (v : ℕ) (e : v ≡ name_of t c) where
-          pub leaf_unnamed : v ≡ 0 → word_code ≡ leaf_code (nodes t u) c
-          leaf_unnamed z = sym (leaf_is h k v he ke e ∙ rw (not_false (eqb h 0 && eqb k 0) q, eq-eqb v 0 z) refl)
+      pub leaf_unnamed : v ≡ 0 → word_code ≡ leaf_code (nodes t u) c
+      leaf_unnamed z = sym (leaf_by ∙ some (eqb h 0) (eqb k 0) _ q ∙ rw (← e, z) refl)
 
-          pub leaf_named : (v ≡ 0 → ⊥) → v ≡ leaf_code (nodes t u) c
-          leaf_named n = sym (leaf_is h k v he ke e ∙ rw (not_false (eqb h 0 && eqb k 0) q, ne_eqb v 0 n) refl)
+      pub leaf_named : (v ≡ 0 → ⊥) → v ≡ leaf_code (nodes t u) c
+      leaf_named n = sym (leaf_by ∙ some (eqb h 0) (eqb k 0) _ q ∙ rw (← e, ne_eqb v 0 n) refl)
 
   -- and what its answer x says
   module _ (x : ℕ) (e : x ≡ leaf_code (nodes t u) c) where
@@ -163,13 +174,13 @@ module _ (t : List ℕ) (u N c : ℕ) (S : Sound t u N) (c1 : 1 ≤ c) (cu : c �
         go false y q = absurd (omega arith)
 
     answer_is : seen_of t c ≡ 1 → x ≡ cond (eqb (child_of t c) 0 && eqb (kind_of t c) 0) (cond (eqb (name_of t c) code.no_name) word_code (name_of t c)) 0
-    answer_is w = e ∙ leaf_is (seen_of t c) refl w (child_of t c) (kind_of t c) (name_of t c) refl refl refl
+    answer_is w = e ∙ leaf_is w
 
     pub leaf_small : x ≤ 3032
     leaf_small = go (ℕ_discrete (seen_of t c) 1)
       where
         go : Dec (seen_of t c ≡ 1) → x ≤ 3032
-        go (no n) = let q = e ∙ sym (leaf_unseen (seen_of t c) refl n) in omega arith
+        go (no n) = let q = e ∙ sym (leaf_unseen n) in omega arith
         go (yes w) = rw (answer_is w) (both (eqb (child_of t c) 0 && eqb (kind_of t c) 0) (eqb (name_of t c) code.no_name))
           where
             both : (a b : Bool) → cond a (cond b word_code (name_of t c)) 0 ≤ 3032
@@ -189,7 +200,7 @@ module _ (t : List ℕ) (u N c : ℕ) (S : Sound t u N) (c1 : 1 ≤ c) (cu : c �
 
         go : Dec (seen_of t c ≡ 1) → Dec (child_of t c ≡ 0) → Dec (kind_of t c ≡ 0) → Dec (name_of t c ≡ 0) → codes (word_type (nodes t u) c) ≡ x ∷ []
         go (no w) h k v =
-            rw (ne_eqb (node_of (nodes t u) c).seen 1 (λ z. w (sym seen_is ∙ z))) (ap (λ (y : ℕ). y ∷ []) (leaf_unseen (seen_of t c) refl w ∙ sym e))
+            rw (ne_eqb (node_of (nodes t u) c).seen 1 (λ z. w (sym seen_is ∙ z))) (ap (λ (y : ℕ). y ∷ []) (leaf_unseen w ∙ sym e))
         go (yes w) (no h) k v = absurd (n (answer_is w ∙ rw (ne_eqb (child_of t c) 0 h) refl))
         go (yes w) (yes h) (no k) v = absurd (n (answer_is w ∙ rw (eq-eqb (child_of t c) 0 h, ne_eqb (kind_of t c) 0 k) refl))
         go (yes w) (yes h) (yes k) (yes v) =

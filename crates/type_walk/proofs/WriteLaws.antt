@@ -6,26 +6,25 @@ use mathlib.Core.List.{List, [], ◌∷◌, ◌++◌}
 use native.Mathlib.Omega.{arith}
 use native.Mathlib.Nat.{add-zero}
 use native.Mathlib.Decide.{ℕ_discrete}
-use lib.ListN.{length, get_or, set, length-append}
+use lib.ListN.{length, set, length-append}
 use lib.Seq.{sets, length-sets}
-use mir.Syntax.{w32}
-use mir.Val.{Fits}
 use borrow.Author.Tests.{eq-eqb, ne_eqb}
-use Rattle.limits.specs.Limits.{word_bytes, types_room, record_width}
+use Rattle.limits.specs.Limits.{word_bytes, types_room}
 use Rattle.spell.proofs.Stores.{sets_append, sets_both}
 use Rattle.names.specs.Elementary.{code_of}
 use Rattle.types.specs.Codes.{codes, all_codes}
 use Rattle.types.proofs.Sizes.{count_codes}
 use Rattle.facts.specs.Table.{key_of, parent_of, child_of, next_of}
-use Rattle.facts.specs.Access.{Has}
 use Rattle.facts.specs.Links.{Kid}
 use Rattle.facts.specs.Linked.{Linked}
 use Rattle.facts.specs.Sound.{Sound}
-use Rattle.facts.specs.State.{Node, nodes}
+use Rattle.facts.specs.State.{Node, nodes, node_of}
+use Rattle.facts.proofs.Encode.{nodes_get}
 use Rattle.paths.specs.Find.{find_in}
 use Rattle.paths.proofs.Frame.{sound_shaped}
-use Rattle.paths.proofs.Tail.{key_fits, next_less}
-use Rattle.paths.proofs.Walk.{left as keys-left, kid_has, At, at_start, at_found, at_past, at_none}
+use Rattle.facts.proofs.Chains.{top, key_le}
+use Rattle.paths.proofs.Tail.{next_less}
+use Rattle.paths.proofs.Walk.{left as keys-left, At, at_start, at_found, at_past, at_none}
 use Rattle.paths.proofs.Finds.{found_is}
 use Rattle.list.specs.Types.{uint256, has_word, words_with, type_of, word_types}
 use Rattle.list.proofs.TypeLaws.{count_words}
@@ -220,6 +219,10 @@ pub record Turn (t : List ℕ) (u N r start words : ℕ) (list : List ℕ) (at :
   pub less : i < words
   pub some : c ≡ 0 → ⊥
 
+pub turn_of : {t : List ℕ} {u N r start words : ℕ} {list : List ℕ} {at : ℕ} {types : List ℕ} {to c i : ℕ} → Sound t u N → 1 ≤ r → r ≤ u
+    → Writing t u r start words list at types to c i → (i ≡ words → ⊥) → (c ≡ 0 → i ≡ words) → Turn t u N r start words list at types to c i
+turn_of S f g W n z = record { sound = S; from = f; used = g; writing = W; less = not_all _ _ W.most n; some = λ q. n (z q) }
+
 module _ {t : List ℕ} {u N r start words : ℕ} {list : List ℕ} {at : ℕ} {types : List ℕ} {to c i : ℕ} (T : Turn t u N r start words list at types to c i) where
   linked : Linked t u
   linked = (sound_shaped t u N T.sound).linked
@@ -227,15 +230,18 @@ module _ {t : List ℕ} {u N r start words : ℕ} {list : List ℕ} {at : ℕ} {
   pub turn_kid : Kid t u r c
   turn_kid = T.writing.reached.first.kid T.some
 
-  pub turn_has : {f : ℕ} → f < record_width → Has t c f
-  turn_has h = kid_has _ _ _ _ _ linked turn_kid h
+  pub turn_range : (1 ≤ c) × (c ≤ u)
+  turn_range = (let a = turn_kid.above in omega arith, turn_kid.used)
+
+  pub turn_key : {k : ℕ} → k ≡ (node_of (nodes t u) c).key → k ≡ key_of t c
+  turn_key e = e ∙ ap (λ (n : Node). n.key) (nodes_get t u c turn_range.0 turn_range.1)
 
   pub turn_small : start ≤ 1 → at + length (all_codes (word_types (nodes t u) r start words)) ≤ types_room → start + i ≤ types_room
   turn_small s1 room = let h = words_small _ _ _ _ _ _ _ _ _ _ _ T.writing s1 room in let l = T.less in omega arith
 
   -- the next child has a higher key
-  pub turn_falls : {c' : ℕ} → ((j : ℕ) → Fits w32 (get_or t j 0)) → c' ≡ next_of t c → keys-left c' (key_of t c') < keys-left c (key_of t c)
-  turn_falls h e = next_less _ _ _ _ _ linked T.from T.used turn_kid (key_fits t h c) e
+  pub turn_falls : {c' : ℕ} → c' ≡ next_of t c → keys-left (top t) c' (key_of t c') < keys-left (top t) c (key_of t c)
+  turn_falls e = next_less _ _ _ _ _ _ linked T.from T.used turn_kid (key_le t c) e
 
   -- a child before the word is passed
   pub turn_passed : {k c' : ℕ} → k ≡ key_of t c → k ≤ word_bytes * (start + i) → (k ≡ word_bytes * (start + i) → ⊥) → c' ≡ next_of t c
@@ -284,8 +290,8 @@ pub record Ran (t : List ℕ) (u r start words : ℕ) (types₀ : List ℕ) (to�
   pub adds : (list : List ℕ) (at : ℕ) → Writing t u r start words list at types₀ to₀ c₀ i₀ → Writing t u r start words list at types to c i
   pub since : i₀ ≤ i
   pub some : c ≡ 0 → i ≡ words
-  pub fewer : keys-left c (key_of t c) ≤ keys-left c₀ (key_of t c₀)
-  pub passed : i < words → word_bytes * (start + i) < key_of t c → keys-left c (key_of t c) < keys-left c₀ (key_of t c₀)
+  pub fewer : keys-left (top t) c (key_of t c) ≤ keys-left (top t) c₀ (key_of t c₀)
+  pub passed : i < words → word_bytes * (start + i) < key_of t c → keys-left (top t) c (key_of t c) < keys-left (top t) c₀ (key_of t c₀)
 
 pub ran_start : (t : List ℕ) (u r start words : ℕ) (types : List ℕ) (to c i : ℕ) → (c ≡ 0 → i ≡ words) → (i < words → key_of t c ≤ word_bytes * (start + i))
     → Ran t u r start words types to c i types to c i
@@ -301,7 +307,7 @@ ran_start t u r start words types to c i z h = record {
 pub ran_next : {t : List ℕ} {u r start words : ℕ} {types₀ : List ℕ} {to₀ c₀ i₀ : ℕ} {types : List ℕ} {to c i : ℕ} {types' : List ℕ} {to' c' i' : ℕ}
     → Ran t u r start words types₀ to₀ c₀ i₀ types to c i
     → ((list : List ℕ) (at : ℕ) → Writing t u r start words list at types to c i → Writing t u r start words list at types' to' c' i')
-    → i ≤ i' → c' ≡ c + 1 → keys-left c' (key_of t c') < keys-left c (key_of t c) → Ran t u r start words types₀ to₀ c₀ i₀ types' to' c' i'
+    → i ≤ i' → c' ≡ c + 1 → keys-left (top t) c' (key_of t c') < keys-left (top t) c (key_of t c) → Ran t u r start words types₀ to₀ c₀ i₀ types' to' c' i'
 ran_next R f h e l =
     let a = R.since in let b = R.fewer in
     record {

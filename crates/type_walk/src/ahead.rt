@@ -1,19 +1,18 @@
 // What stands ahead of the codes of a fact's words.
 ghost use Rattle.std.specs.Prelude.{◌≡◌, ◌&&◌, ◌*◌, ◌≤◌, suc, max, eqb};
 ghost use Rattle.limits.specs.Limits.{dynamic_count_max, word_bytes};
-ghost use Rattle.facts.specs.State.{nodes, node_of};
+ghost use Rattle.facts.specs.State.{node_of};
+ghost use Rattle.paths.specs.Lent.{facts_of};
 ghost use Rattle.facts.specs.Sound.{Sound};
-ghost use Rattle.paths.specs.Shape.{Shaped};
 ghost use Rattle.list.specs.Looks.{Looked};
 ghost use Rattle.list.specs.Types.{name_holds};
 ghost use Rattle.type_walk.specs.Plan.{tuple_code, open_plan, kind_plan, plan_of};
 
 use crate::Plan;
-use facts::field;
 use limits::codes::{ARRAY, BYTES, NO_NAME, TUPLE, UINT};
-use limits::fields::{COUNT, KIND, NAME};
 use limits::{KIND_ARRAY, KIND_DYNAMIC, WORD_BYTES};
 use list::{Children, last_word, seen_children};
+use paths::Facts;
 
 // The code of uint256.
 pub const WORD_CODE: u32 = UINT + 256;
@@ -27,18 +26,17 @@ fn tuple_code(n: u32) -> u32
 }
 
 // Is the name the type?
-fn name_holds(table: &[u32], n: u32, used: u32, r: u32, childless: bool) -> bool
-    requires shaped { Shaped table.now used n }
-    requires le_r { (1 ≤ r) × (r ≤ used) }
-    ensures { result ≡ name_holds (node_of (nodes table.now used) r) childless }
+#[tactic(auto, unfolding(list::specs::Types::name_holds))]
+fn name_holds(facts: &Facts, r: u32, childless: bool) -> bool
+    requires le_r { (1 ≤ r) × (r ≤ facts.now.used) }
+    ensures { result ≡ name_holds (node_of (facts_of facts.now) r) childless }
 {
-    let name = field(table, r, NAME);
-    let kind = field(table, r, KIND);
-    if name == BYTES {
-        let one = field(table, r, COUNT) == 1;
-        return (kind == 0) | ((kind == KIND_DYNAMIC) & one);
+    let kind = facts.kind(r);
+    match facts.name(r) {
+        NO_NAME => false,
+        BYTES => (kind == 0) | ((kind == KIND_DYNAMIC) & (facts.count(r) == 1)),
+        _ => childless & (kind != KIND_ARRAY),
     }
-    (name != NO_NAME) & childless & (kind != KIND_ARRAY)
 }
 
 // Do the keys end at this one?
@@ -51,6 +49,7 @@ fn ends_at(last: u32, count: u32, words: u32) -> bool
 }
 
 // A dynamic or plain fact.
+#[tactic(auto, unfolding(crate::specs::Plan::open_plan))]
 fn open_plan(kind: u32, kids: Children, count: u32, last: u32) -> Plan
     requires { last ≤ dynamic_count_max }
     ensures { result ≡ open_plan kind (eqb kids.count 0) (eqb kids.count 1 && eqb kids.last_kind 0)
@@ -94,14 +93,15 @@ fn open_plan(kind: u32, kids: Children, count: u32, last: u32) -> Plan
 }
 
 // By kind, for a fact whose name is not its type.
-fn kind_plan(table: &[u32], n: u32, used: u32, r: u32, kids: Children) -> Plan
-    requires sound { Sound table.now used n }
-    requires le_r { (1 ≤ r) × (r ≤ used) }
-    requires looked { Looked (nodes table.now used) r kids }
-    ensures { result ≡ kind_plan (nodes table.now used) r }
+#[tactic(auto, unfolding(crate::specs::Plan::kind_plan))]
+fn kind_plan(facts: &Facts, r: u32, kids: Children) -> Plan
+    requires sound { Sound facts.now.table.now facts.now.used facts.now.records }
+    requires le_r { (1 ≤ r) × (r ≤ facts.now.used) }
+    requires looked { Looked (facts_of facts.now) r kids }
+    ensures { result ≡ kind_plan (facts_of facts.now) r }
 {
-    let last = last_word(table, n, used, r, kids.last_key);
-    let kind = field(table, r, KIND);
+    let last = last_word(facts, r, kids.last_key);
+    let kind = facts.kind(r);
     if kind == KIND_ARRAY {
         return Plan {
             first: ARRAY,
@@ -110,23 +110,24 @@ fn kind_plan(table: &[u32], n: u32, used: u32, r: u32, kids: Children) -> Plan
             words: last,
         };
     }
-    open_plan(kind, kids, field(table, r, COUNT), last)
+    open_plan(kind, kids, facts.count(r), last)
 }
 
 // What stands ahead for a fact, and which of its words follow.
-pub fn plan_of(table: &[u32], n: u32, used: u32, r: u32) -> Plan
-    requires sound { Sound table.now used n }
-    requires le_r { (1 ≤ r) × (r ≤ used) }
-    ensures { result ≡ plan_of (nodes table.now used) r }
+#[tactic(auto, unfolding(crate::specs::Plan::plan_of))]
+pub fn plan_of(facts: &Facts, r: u32) -> Plan
+    requires sound { Sound facts.now.table.now facts.now.used facts.now.records }
+    requires le_r { (1 ≤ r) × (r ≤ facts.now.used) }
+    ensures { result ≡ plan_of (facts_of facts.now) r }
 {
-    let kids = seen_children(table, n, used, r);
-    if name_holds(table, n, used, r, kids.count == 0) {
+    let kids = seen_children(facts, r);
+    if name_holds(facts, r, kids.count == 0) {
         return Plan {
-            first: field(table, r, NAME),
+            first: facts.name(r),
             second: 0,
             start: 0,
             words: 0,
         };
     }
-    kind_plan(table, n, used, r, kids)
+    kind_plan(facts, r, kids)
 }

@@ -2,7 +2,7 @@
 ghost use Rattle.std.specs.Prelude.{◌≡◌, ◌+◌, ◌*◌, ◌≤◌, ◌<◌, length};
 ghost use Rattle.limits.specs.Limits.{types_room, word_bytes};
 ghost use Rattle.facts.specs.Table.{key_of};
-ghost use Rattle.facts.specs.State.{nodes};
+ghost use Rattle.paths.specs.Lent.{facts_of};
 ghost use Rattle.facts.specs.Sound.{Sound};
 ghost use Rattle.types.specs.Codes.{all_codes};
 ghost use Rattle.list.specs.Types.{word_types};
@@ -11,30 +11,28 @@ ghost use Rattle.type_walk.specs.Walk.{Reached, Writing};
 
 use crate::Run;
 use crate::ahead::WORD_CODE;
-use facts::field;
 use limits::WORD_BYTES;
 use limits::codes::NO_NAME;
-use limits::fields::{CHILD, KEY, KIND, NAME, SEEN};
+use paths::Facts;
 
 // A key that no word comes to: where the words end if no child is left.
-const KEY_END: u32 = 4294967295;
+const KEY_END: u32 = u32::MAX;
 
 // The one code of a word at whose key the record c stands: uint256 where it is not seen; the name of a fact with no
 // child and no kind, or uint256 without one. 0 for any other.
-pub fn leaf_code(table: &[u32], n: u32, used: u32, c: u32) -> u32
-    requires sound { Sound table.now used n }
-    requires le_c { (1 ≤ c) × (c ≤ used) }
-    ensures { result ≡ leaf_code (nodes table.now used) c }
+#[tactic(auto, unfolding(crate::specs::Plan::leaf_code))]
+pub fn leaf_code(facts: &Facts, c: u32) -> u32
+    requires sound { Sound facts.now.table.now facts.now.used facts.now.records }
+    requires le_c { (1 ≤ c) × (c ≤ facts.now.used) }
+    ensures { result ≡ leaf_code (facts_of facts.now) c }
 {
-    if field(table, c, SEEN) != 1 {
+    if !facts.is_seen(c) {
         return WORD_CODE;
     }
-    let childless = field(table, c, CHILD) == 0;
-    let plain = field(table, c, KIND) == 0;
-    if !(childless & plain) {
+    if (facts.child(c) != 0) | (facts.kind(c) != 0) {
         return 0;
     }
-    let name = field(table, c, NAME);
+    let name = facts.name(c);
     if name == NO_NAME {
         return WORD_CODE;
     }
@@ -43,9 +41,7 @@ pub fn leaf_code(table: &[u32], n: u32, used: u32, c: u32) -> u32
 
 // Writes the words from start on that stand before the child to look at: each has uint256.
 pub fn write_gap(
-    table: &[u32],
-    n: u32,
-    used: u32,
+    facts: &Facts,
     r: u32,
     start: u32,
     words: u32,
@@ -53,29 +49,28 @@ pub fn write_gap(
     types: &mut [u16],
     at: usize,
 ) -> Run
-    requires sound { Sound table.now used n }
-    requires le_r { (1 ≤ r) × (r ≤ used) × (start + words ≤ types_room + 1) }
-    requires reached { Reached table.now used r (word_bytes * start) first }
-    requires words_bound { at + length (all_codes (word_types (nodes table.now used) r start words)) ≤ types_room }
+    requires sound { Sound facts.now.table.now facts.now.used facts.now.records }
+    requires le_r { (1 ≤ r) × (r ≤ facts.now.used) × (start + words ≤ types_room + 1) }
+    requires reached { Reached facts.now.table.now facts.now.used r (word_bytes * start) first }
+    requires words_bound { at + length (all_codes (word_types (facts_of facts.now) r start words)) ≤ types_room }
     requires types_room_in_bounds { types_room ≤ length types.old }
-    ensures writing { Writing table.now used r start words
+    ensures writing { Writing facts.now.table.now facts.now.used r start words
         types.old at types.new result.to first result.done }
     ensures done_value { (first ≡ 0 → result.done ≡ words)
-        × (result.done < words → key_of table.now first ≤ word_bytes * (start + result.done)) }
+        × (result.done < words → key_of facts.now.table.now first ≤ word_bytes * (start + result.done)) }
 {
-    let mut done: u32 = 0;
+    let end = if first == 0 {
+        KEY_END
+    } else {
+        facts.key(first)
+    };
     let mut to = at;
-    let mut end = KEY_END;
-    if first != 0 {
-        end = field(table, first, KEY);
-    }
-    while done < words {
+    for done in 0..words {
         if end <= WORD_BYTES * (start + done) {
             return Run { done, to };
         }
         types[to] = WORD_CODE as u16;
         to += 1;
-        done += 1;
     }
-    Run { done, to }
+    Run { done: words, to }
 }

@@ -2,7 +2,7 @@
 ghost use Rattle.std.specs.Prelude.{◌≡◌, ◌+◌, ◌^◌, ◌≤◌, ◌<◌, length};
 ghost use Rattle.std.proofs.lemmas.List.Edits.{sets};
 ghost use Rattle.limits.specs.Limits.{types_room};
-ghost use Rattle.facts.specs.State.{nodes};
+ghost use Rattle.paths.specs.Lent.{facts_of};
 ghost use Rattle.facts.specs.Sound.{Sound};
 ghost use Rattle.types.specs.Codes.{codes, all_codes};
 ghost use Rattle.list.specs.Types.{word_types};
@@ -12,9 +12,8 @@ ghost use Rattle.type_walk.specs.Walk.{Led};
 use crate::ahead::plan_of;
 use crate::leaves::{leaf_code, write_gap};
 use crate::{Plan, Rest};
-use facts::field;
 use limits::WORD_BYTES;
-use limits::fields::{CHILD, KEY, NEXT};
+use paths::Facts;
 
 // Stores a code, unless it is 0, and answers the index behind it.
 fn put_code(types: &mut [u16], at: usize, code: u32) -> usize
@@ -40,14 +39,14 @@ fn put_plan(types: &mut [u16], at: usize, plan: Plan) -> usize
 }
 
 // Stores what stands ahead of the codes of a word at whose key the record c stands. Most have one code.
-fn write_ahead(table: &[u32], n: u32, used: u32, c: u32, types: &mut [u16], at: usize) -> Rest
-    requires sound { Sound table.now used n }
-    requires le_c { (1 ≤ c) × (c ≤ used) }
-    requires c_bound { at + length (codes (word_type (nodes table.now used) c)) ≤ types_room }
+fn write_ahead(facts: &Facts, c: u32, types: &mut [u16], at: usize) -> Rest
+    requires sound { Sound facts.now.table.now facts.now.used facts.now.records }
+    requires le_c { (1 ≤ c) × (c ≤ facts.now.used) }
+    requires c_bound { at + length (codes (word_type (facts_of facts.now) c)) ≤ types_room }
     requires types_room_in_bounds { types_room ≤ length types.old }
-    ensures { Led (nodes table.now used) c types.old at types.new result }
+    ensures { Led (facts_of facts.now) c types.old at types.new result }
 {
-    let code = leaf_code(table, n, used, c);
+    let code = leaf_code(facts, c);
     if code != 0 {
         types[at] = code as u16;
         return Rest {
@@ -56,11 +55,12 @@ fn write_ahead(table: &[u32], n: u32, used: u32, c: u32, types: &mut [u16], at: 
             to: at + 1,
         };
     }
-    let plan = plan_of(table, n, used, c);
-    let start = plan.start;
-    let words = plan.words;
-    let to = put_plan(types, at, plan);
-    Rest { start, words, to }
+    let plan = plan_of(facts, c);
+    Rest {
+        start: plan.start,
+        words: plan.words,
+        to: put_plan(types, at, plan),
+    }
 }
 
 // Stores the codes of so many words of a fact from one on, and answers the index behind them: words before the next
@@ -69,49 +69,47 @@ fn write_ahead(table: &[u32], n: u32, used: u32, c: u32, types: &mut [u16], at: 
 // instead of waiting for the number that it loads. It is higher than the parent's, so that fewer numbers are left above
 // it.
 pub fn write_words(
-    table: &[u32],
-    n: u32,
-    used: u32,
+    facts: &Facts,
     r: u32,
     start: u32,
     words: u32,
     types: &mut [u16],
     at: usize,
 ) -> usize
-    requires sound { Sound table.now used n }
-    requires le_r { (1 ≤ r) × (r ≤ used) × (start ≤ 1) }
-    requires words_bound { at + length (all_codes (word_types (nodes table.now used) r start words)) ≤ types_room }
+    requires sound { Sound facts.now.table.now facts.now.used facts.now.records }
+    requires le_r { (1 ≤ r) × (r ≤ facts.now.used) × (start ≤ 1) }
+    requires words_bound { at + length (all_codes (word_types (facts_of facts.now) r start words)) ≤ types_room }
     requires types_room_in_bounds { types_room ≤ length types.old }
     ensures types_after { types.new ≡ sets types.old at
-        (all_codes (word_types (nodes table.now used) r start words)) }
-    ensures value { result ≡ at + length (all_codes (word_types (nodes table.now used) r start words)) }
+        (all_codes (word_types (facts_of facts.now) r start words)) }
+    ensures value { result ≡ at + length (all_codes (word_types (facts_of facts.now) r start words)) }
 {
     let mut to = at;
-    let mut c = field(table, r, CHILD);
+    let mut c = facts.child(r);
     let mut i: u32 = 0;
     while i < words {
-        let gap = write_gap(table, n, used, r, start + i, words - i, c, types, to);
+        let gap = write_gap(facts, r, start + i, words - i, c, types, to);
         i += gap.done;
         to = gap.to;
         loop {
             if i == words {
                 return to;
             }
-            let key = field(table, c, KEY);
+            let key = facts.key(c);
             let word = WORD_BYTES * (start + i);
             if word < key {
                 break;
             }
             if key == word {
-                let ahead = write_ahead(table, n, used, c, types, to);
+                let ahead = write_ahead(facts, c, types, to);
                 to = ahead.to;
                 if ahead.words != 0 {
-                    to = write_words(table, n, used, c, ahead.start, ahead.words, types, to);
+                    to = write_words(facts, c, ahead.start, ahead.words, types, to);
                 }
                 i += 1;
             }
             let follow = c as usize + 1;
-            let behind = field(table, c, NEXT);
+            let behind = facts.next(c);
             if behind as usize != follow {
                 c = behind;
                 break;
