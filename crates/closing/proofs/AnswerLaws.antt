@@ -1,4 +1,6 @@
 -- None, over or granted: what the answer and the type slice are in each case.
+use Rattle.std.proofs.Common.{Some, None}
+use Rattle.std.proofs.lemmas.Option.{none-some, cond_some}
 use Prim.Native.Nat.{ℕ, suc, ◌+◌, ◌-◌, ◌*◌, ◌≤◌}
 use mathlib.Core.Path.{◌≡◌, refl, sym, ap, ◌∙◌}
 use mathlib.Core.Bool.{Bool, true, false, cond, and-eq-true_iff}
@@ -18,56 +20,38 @@ use Rattle.facts.specs.State.{Node}
 use Rattle.list.specs.Seen.{children_in, is_empty, last_word}
 use Rattle.list.specs.Budget.{shallow, spend, fits_budget}
 use Rattle.list.specs.Types.{word_types, list_of}
-use Rattle.budget.specs.declared.Budget.{Budget}
-use Rattle.budget.specs.declared.Budget.TheVariants.{Left, Over}
-use Rattle.budget.specs.Answer.{budget_of, word_told}
+use Rattle.budget.specs.Answer.{budget_of}
 use Rattle.list_theorems.proofs.ListCodes.{list_codes}
 use Rattle.list_theorems.proofs.Granted.{list_count}
 use Rattle.closing.specs.Answer.{none, over, granted, answer_of, types_after}
-
--- what a budget leaves, 0 for none
-abbrev left_in : Budget → ℕ
-left_in (Left n) = n
-left_in Over = 0
-
-abbrev is_left : Budget → Bool
-is_left (Left n) = true
-is_left Over = false
 
 module _ (s : List Node) (bare : Bool) (types : List ℕ) (L : bare ≡ is_empty (children_in s 1)) where
   pub answer_none : bare ≡ true → (none ≡ answer_of s) × (types ≡ types_after s types)
   unfolding answer_of types_after
   answer_none z = rw (sym L ∙ z) (refl, refl)
 
-  module _ (n : bare ≡ false) (b : Budget) (e : b ≡ budget_of s) where
+  module _ (n : bare ≡ false) where
     childless : is_empty (children_in s 1) ≡ false
     childless = sym L ∙ n
 
-    fits_is : is_left b ≡ fits_budget s
-    unfolding budget_of
-    fits_is = ap is_left e ∙ go (fits_budget s)
+    pub answer_over : None ≡ budget_of s → (over ≡ answer_of s) × (types ≡ types_after s types)
+    unfolding answer_of types_after budget_of
+    answer_over e = rw (childless, go (fits_budget s) e) (refl, refl)
       where
-        go : (f : Bool) → is_left (cond f (Left (budget_max - spend s)) Over) ≡ f
-        go true = refl
-        go false = refl
+        go : (f : Bool) → None ≡ cond f (Some (budget_max - spend s)) None → f ≡ false
+        go true q = absurd (none-some (budget_max - spend s) q)
+        go false q = refl
 
-    pub answer_over : b ≡ Over → (over ≡ answer_of s) × (types ≡ types_after s types)
-    unfolding answer_of types_after
-    answer_over z =
-        let f : fits_budget s ≡ false = sym fits_is ∙ ap is_left z in
-        rw (childless, f) (refl, refl)
-
-    module _ (left : ℕ) (z : b ≡ Left left) where
-      -- not over, so that the last word is told
-      pub word_told_lem : (w : ℕ) → w ≡ word_told b (last_word s 1) → w ≡ last_word s 1
-      word_told_lem w q = q ∙ ap (λ (x : Budget). word_told x (last_word s 1)) z
+    module _ (left : ℕ) (e : Some left ≡ budget_of s) where
+      both : (fits_budget s ≡ true) × (budget_max - spend s ≡ left)
+      unfolding budget_of
+      both = cond_some (fits_budget s) (budget_max - spend s) left (sym e)
 
       fits : fits_budget s ≡ true
-      fits = sym fits_is ∙ ap is_left z
+      fits = both.0
 
       left_is : left ≡ budget_max - spend s
-      unfolding budget_of
-      left_is = ap left_in (sym z ∙ e) ∙ ap (λ (f : Bool). left_in (cond f (Left (budget_max - spend s)) Over)) fits
+      left_is = sym both.1
 
       pub spend_most : spend s ≤ budget_max
       spend_most = leb-true (spend s) budget_max ((and-eq-true_iff (shallow s) (leb (spend s) budget_max)).0 fits).1

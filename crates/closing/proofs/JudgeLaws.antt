@@ -15,7 +15,8 @@ use Rattle.head.specs.Held.{Held, held, records_in, state_in, holding}
 use Rattle.head.specs.Asked.{first_no}
 use Rattle.head.specs.Admitting.{Admits}
 use Rattle.head.proofs.Asking.{sound_asked, admitted_sound}
-use Rattle.paths.specs.Represents.{Represents}
+use Rattle.paths.specs.declared.lent.Facts.{Facts}
+use Rattle.paths.specs.Lent.{Grows}
 use Rattle.paths.proofs.Frame.{shaped_encode}
 use Rattle.paths.proofs.Sounds.{held_sound}
 use Rattle.kinds.specs.Fill.{fill}
@@ -76,9 +77,17 @@ module _ (N : ℕ) (head : Head) (table types : List ℕ) (h : Handed) (A : Admi
       pub room_left : m ≤ N - head.used → head.used + fill_missing s w ≤ N
       room_left g = let u = S.most in omega arith
 
-      module _ (g : m ≤ N - head.used) (t' : List ℕ) (u' : ℕ) (H : Represents t' u' N (fill s w)) where
-        pub sound_filled : Sound t' u' N
-        sound_filled = held_sound t' u' N (fill s w) H (formed_fill s w (sound_formed table head.used N S))
+      module _ (g : m ≤ N - head.used) (f f' : Facts) (H : Grows f f' (fill s w)) (n : f.records ≡ N) where
+        abbrev t' : List ℕ
+        t' = f'.table.now
+
+        abbrev u' : ℕ
+        u' = f'.used
+
+        pub sound_filled : Sound t' u' f'.records
+        sound_filled =
+            held_sound t' u' f'.records (fill s w) (record { shaped = f'.shaped; state = H.state })
+            (formed_fill s w (sound_formed table head.used N S))
 
         abbrev head' : Head
         head' = record { used = u'; active = head.active }
@@ -86,13 +95,16 @@ module _ (N : ℕ) (head : Head) (table types : List ℕ) (h : Handed) (A : Admi
         facts_are : nodes t' u' ≡ filled s h
         facts_are = H.state ∙ filled_is
 
-        left_is : held head' t' ≡ holding (records_in t) head.active (filled s h)
-        left_is = λ i. record {
+        records_are : f'.records ≡ records_in t
+        records_are = H.same.records ∙ n ∙ A.is
+
+        left_is : (t'' : List ℕ) → t'' ≡ t' → held head' t'' ≡ holding (records_in t) head.active (filled s h)
+        left_is t'' e = λ i. record {
           head = record {
             used = (sym (length_nodes t' u') ∙ ap (λ (x : List Node). length x) facts_are) i;
             active = head.active;
           };
-          table = (shaped_encode t' u' N H.shaped ∙ (λ j. encode (A.is j) (facts_are j))) i;
+          table = (e ∙ shaped_encode t' u' f'.records f'.shaped ∙ (λ j. encode (records_are j) (facts_are j))) i;
         }
 
         none_refuses : first_no (tests_of t h types) ≡ 0
@@ -108,13 +120,13 @@ module _ (N : ℕ) (head : Head) (table types : List ℕ) (h : Handed) (A : Admi
             )
             refl
 
-        pub answered : (v : Verdict) (types' : List ℕ) → v ≡ answer_of (nodes t' u')
+        pub answered : (v : Verdict) (t'' types' : List ℕ) → t'' ≡ t' → v ≡ answer_of (nodes t' u')
             → types' ≡ types_after (nodes t' u') types
-            → Outcome t types h v (held head' t') types'
-        answered v types' a b = record {
+            → Outcome t types h v (held head' t'') types'
+        answered v t'' types' e a b = record {
           number = 0;
           asked = sound_asked t (tests_of t h types) N 0 A (sym none_refuses);
           answers = a ∙ ap answer_of facts_are;
-          leaves = left_is;
+          leaves = left_is t'' e;
           writes = b ∙ ap (λ (x : List Node). types_after x types) facts_are;
         }

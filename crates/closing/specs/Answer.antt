@@ -1,15 +1,17 @@
 -- "The answer is none (the root has no seen child), over, or granted with entry count, budget left and head length (our
 -- addition), which is 32 times the entry count."
-use Rattle.std.specs.Prelude.{ℕ, suc, ◌-◌, ◌*◌, Bool, true, false, cond, List, ◌++◌, length, drop}
+use Rattle.std.specs.Prelude.{ℕ, suc, ◌-◌, ◌*◌, Bool, true, false, cond, List, ◌++◌, length, drop, Ok, Err}
+use Rattle.std.specs.declared.result.Result.{Result}
 use Rattle.limits.specs.Limits.{budget_max, word_bytes}
 use Rattle.limits.specs.Refusal.{taken, number_of as refusal_number}
+use Rattle.limits.specs.declared.refusal.Refusal.{Refusal}
 use Rattle.types.specs.Codes.{all_codes}
 use Rattle.facts.specs.State.{Node}
 use Rattle.list.specs.Seen.{children_in, is_empty, last_word}
 use Rattle.list.specs.Budget.{spend, fits_budget}
 use Rattle.list.specs.Types.{list_of}
 use Rattle.closing.specs.declared.Closing.{Closing}
-use Rattle.closing.specs.declared.Closing.TheVariants.{Refused, Nothing, Over, Granted}
+use Rattle.closing.specs.declared.Closing.TheVariants.{Nothing, Over, Granted}
 
 -- an answer in document 01's words: refused by a number, or "none", "over", "granted with entry count, budget left and
 -- head length"
@@ -19,11 +21,11 @@ pub data Verdict : Type 0 where
   granted : ℕ → ℕ → ℕ → Verdict
 
 -- the number and the values of each answer of the call
-abbrev pub verdict_of : Closing → Verdict
-verdict_of (Refused r) = refused (refusal_number r)
-verdict_of Nothing = none
-verdict_of Over = over
-verdict_of (Granted g) = granted g.entries g.left g.length
+abbrev pub verdict_of : Result Closing Refusal → Verdict
+verdict_of (Err r) = refused (refusal_number r)
+verdict_of (Ok Nothing) = none
+verdict_of (Ok Over) = over
+verdict_of (Ok (Granted g)) = granted g.entries g.left g.length
 
 -- the refusal's number, 0 for none (that 0 is ours)
 abbrev pub number_of : Verdict → ℕ

@@ -1,8 +1,10 @@
 -- The words of the arguments' head (the first words of the call data behind the selector, one for each argument) that a
 -- closing fills: "`direct_min_calldata_words`, overridden by `dense_min_calldata_words`, fills the head as in the
 -- tail."
-use Rattle.std.specs.Prelude.{ℕ, zero, suc, cond, ◌&&◌, List, [], ◌∷◌, eqb, leb, Option, Some, None}
+use Rattle.std.specs.Prelude.{ℕ, zero, suc, cond, ◌&&◌, List, [], ◌∷◌, eqb, leb, Some, None}
 use Rattle.limits.specs.Limits.{kind_array, argument_words_max}
+use Rattle.std.specs.declared.option.Option.{Option}
+use Rattle.word.specs.declared.U256.{U256}
 use Rattle.word.specs.Value.{value_of}
 use Rattle.code.specs.Length.{direct_min_calldata_words}
 use Rattle.code.specs.Dense.{dense_min_calldata_words}
@@ -10,23 +12,21 @@ use Rattle.facts.specs.State.{Node, node_of}
 use Rattle.kinds.specs.Kinds.{has_dynamic}
 use Rattle.kinds.specs.Fill.{fill}
 use Rattle.list.specs.Seen.{children_in, is_empty}
-use Rattle.closing.specs.declared.Packed.{Packed}
-use Rattle.closing.specs.declared.Packed.TheVariants.{Absent, Word}
 
 -- "code, start pc and an optional packed word": where the function begins in the code, and the word on top of the stack
 -- there, which may hold a checked length
 pub record Handed : Type 0 where
   pub code : List ℕ
   pub start : ℕ
-  pub packed : Packed
+  pub packed : Option U256
 
-abbrev pub hand : List ℕ → ℕ → Packed → Handed
+abbrev pub hand : List ℕ → ℕ → Option U256 → Handed
 hand code start packed = record { code = code; start = start; packed = packed }
 
 -- what the packed word says, if there is one
-abbrev pub packed_words : List ℕ → ℕ → Packed → Option ℕ
-packed_words code start Absent = None
-packed_words code start (Word w) = dense_min_calldata_words code start (value_of w)
+abbrev pub packed_words : List ℕ → ℕ → Option U256 → Option ℕ
+packed_words code start None = None
+packed_words code start (Some w) = dense_min_calldata_words code start (value_of w)
 
 -- "overridden by"
 abbrev pub override : Option ℕ → Option ℕ → Option ℕ

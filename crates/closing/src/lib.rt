@@ -6,45 +6,37 @@ mod answer;
 mod arrive;
 mod words;
 
-pub use arrive::{close, number_of};
+pub use arrive::close;
 use head::Head;
 use limits::Refusal;
-use word::U256;
-
-// "an optional packed word".
-#[derive(Clone, Copy)]
-pub enum Packed {
-    Absent,
-    Word(U256),
-}
 
 // "granted with entry count, budget left and head length".
-#[derive(Clone, Copy)]
+#[derive(Clone, Copy, Debug, PartialEq, Eq)]
 pub struct Granted {
     pub entries: u32,
     pub left: u32,
     pub length: u32,
 }
 
-// The question that was answered with no, or what is said of the list. Nothing is the paper's "none".
-#[derive(Clone, Copy)]
+// What is said of the list. Nothing is the paper's "none".
+#[derive(Clone, Copy, Debug, PartialEq, Eq)]
 pub enum Closing {
-    Refused(Refusal),
     Nothing,
     Over,
     Granted(Granted),
 }
 
 // What a closing leaves beside the lent slices.
-#[derive(Clone, Copy)]
+#[derive(Clone, Copy, Debug, PartialEq, Eq)]
 pub struct Closed {
     pub head: Head,
-    pub answer: Closing,
+    pub answer: Result<Closing, Refusal>,
 }
 
-// How many of the root's children are dynamic, two standing for more, and the first of them.
-#[derive(Clone, Copy)]
-pub struct Dynamics {
-    pub count: u32,
-    pub first: u32,
+// The root's dynamic children: none, one, or more.
+#[derive(Clone, Copy, Debug, PartialEq, Eq)]
+pub enum Dynamics {
+    Nothing,
+    One(u32),
+    More,
 }

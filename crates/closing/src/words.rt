@@ -1,68 +1,59 @@
 // The words of the head that a closing fills.
 ghost use Rattle.std.specs.Prelude.{◌≡◌, ◌&&◌, ◌≤◌, eqb};
 ghost use Rattle.limits.specs.Limits.{kind_array, argument_words_max};
-ghost use Rattle.facts.specs.State.{nodes, node_of};
-ghost use Rattle.paths.specs.Shape.{Shaped};
+ghost use Rattle.facts.specs.State.{node_of};
+ghost use Rattle.paths.specs.Lent.{facts_of};
 ghost use Rattle.list.specs.Seen.{children_in, is_empty};
 ghost use Rattle.closing.specs.Words.{hand, packed_words, min_words, dynamic_args, head_by, fill_count, fill_words};
 ghost use Rattle.closing.specs.Dynamics.{summary};
 
-use crate::{Dynamics, Packed};
+use crate::Dynamics;
 use code::{dense_min_calldata_words, direct_min_calldata_words};
-use facts::field;
 use kinds::has_dynamic;
-use limits::fields::{CHILD, KIND, NEXT};
 use limits::{ARGUMENT_WORDS_MAX, KIND_ARRAY};
 use list::is_childless;
+use paths::Facts;
+use word::U256;
 
 // What the packed word says, if there is one.
-fn packed_words(code: &[u8], start: u32, packed: Packed) -> Option<u32>
+fn packed_words(code: &[u8], start: u32, packed: Option<U256>) -> Option<u32>
     ensures { result ≡ packed_words code.now start packed }
 {
-    let Packed::Word(word) = packed else {
-        return None;
-    };
-    dense_min_calldata_words(code, start, word)
+    dense_min_calldata_words(code, start, packed?)
 }
 
 // The least length of the call data in words: the packed reading overrides the direct one.
-fn min_words(code: &[u8], start: u32, packed: Packed) -> Option<u32>
+fn min_words(code: &[u8], start: u32, packed: Option<U256>) -> Option<u32>
     ensures { result ≡ min_words (hand code.now start packed) }
 {
     packed_words(code, start, packed).or_else(|| direct_min_calldata_words(code, start))
 }
 
 // The root's dynamic children; the walk ends with the second.
-fn dynamic_args(table: &[u32], n: u32, used: u32) -> Dynamics
-    requires { Shaped table.now used n }
-    ensures { result ≡ summary (dynamic_args (nodes table.now used)) }
+fn dynamic_args(facts: &Facts) -> Dynamics
+    ensures { result ≡ summary (dynamic_args (facts_of facts.now)) }
 {
-    let mut count: u32 = 0;
-    let mut first: u32 = 0;
-    let mut c = field(table, 1, CHILD);
-    while c != 0 {
-        if has_dynamic(table, n, used, c) {
-            if count != 0 {
-                return Dynamics { count: 2, first };
-            }
-            count = 1;
-            first = c;
+    let mut met = Dynamics::Nothing;
+    let mut child = facts.child(1);
+    while child != 0 {
+        if has_dynamic(facts, child) {
+            met = match met {
+                Dynamics::Nothing => Dynamics::One(child),
+                _ => return Dynamics::More,
+            };
         }
-        c = field(table, c, NEXT);
+        child = facts.next(child);
     }
-    Dynamics { count, first }
+    met
 }
 
 // An array with no child: its length is a word behind the head.
-fn is_bare_array(table: &[u32], n: u32, used: u32, r: u32) -> bool
-    requires shaped { Shaped table.now used n }
-    requires le_r { (1 ≤ r) × (r ≤ used) }
-    ensures { result ≡ eqb (node_of (nodes table.now used) r).kind kind_array
-        && is_empty (children_in (nodes table.now used) r) }
+fn is_bare_array(facts: &Facts, r: u32) -> bool
+    requires { (1 ≤ r) × (r ≤ facts.now.used) }
+    ensures { result ≡ eqb (node_of (facts_of facts.now) r).kind kind_array
+        && is_empty (children_in (facts_of facts.now) r) }
 {
-    let array = field(table, r, KIND) == KIND_ARRAY;
-    let childless = is_childless(table, n, used, r);
-    array & childless
+    (facts.kind(r) == KIND_ARRAY) & is_childless(facts, r)
 }
 
 // No more than the Rust fills.
@@ -77,36 +68,25 @@ fn limited(words: u32) -> u32
 }
 
 // How many words are filled, of a least length of so many.
-fn head_words(table: &[u32], n: u32, used: u32, words: u32) -> u32
-    requires { Shaped table.now used n }
-    ensures { (result ≡ fill_count (head_by (nodes table.now used) words
-        (dynamic_args (nodes table.now used)))) × (result ≤ argument_words_max) }
+fn head_words(facts: &Facts, words: u32) -> u32
+    ensures { (result ≡ fill_count (head_by (facts_of facts.now) words
+        (dynamic_args (facts_of facts.now)))) × (result ≤ argument_words_max) }
 {
-    let dynamics = dynamic_args(table, n, used);
-    if dynamics.count == 0 {
-        return limited(words);
+    match dynamic_args(facts) {
+        Dynamics::Nothing => limited(words),
+        Dynamics::One(r) if is_bare_array(facts, r) & (words != 0) => limited(words - 1),
+        _ => 0,
     }
-    if dynamics.count != 1 {
-        return 0;
-    }
-    if !is_bare_array(table, n, used, dynamics.first) {
-        return 0;
-    }
-    if words == 0 {
-        return 0;
-    }
-    limited(words - 1)
 }
 
 // How many words of the head the closing fills.
 #[tactic(auto, unfolding(crate::specs::Words::fill_words))]
-pub fn fill_words(table: &[u32], n: u32, used: u32, code: &[u8], start: u32, packed: Packed) -> u32
-    requires { Shaped table.now used n }
-    ensures { (result ≡ fill_words (nodes table.now used) (hand code.now start packed))
+pub fn fill_words(facts: &Facts, code: &[u8], start: u32, packed: Option<U256>) -> u32
+    ensures { (result ≡ fill_words (facts_of facts.now) (hand code.now start packed))
         × (result ≤ argument_words_max) }
 {
     let Some(words) = min_words(code, start, packed) else {
         return 0;
     };
-    head_words(table, n, used, words)
+    head_words(facts, words)
 }
