@@ -1,21 +1,16 @@
 // Questions, which change nothing.
-ghost use Rattle.paths.specs.Shape.{Shaped};
-
 use crate::answer::Answer;
 use crate::operation::{Child, Question};
+use paths::Facts;
 
-pub fn ask(table: &[u32], n: u32, used: u32, question: Question, child: Child) -> Answer
-    requires { Shaped table.now used n }
-{
+pub fn ask(facts: &Facts, question: Question, child: Child) -> Answer {
     let Child { parent, key } = child;
-    if parent < 1 || used < parent {
+    if parent < 1 || facts.used < parent {
         return Answer::Skipped;
     }
     match question {
-        Question::FindChild => Answer::Number(paths::find_child(table, used, parent, key)),
-        Question::Missing => Answer::Number(paths::missing(table, used, parent, key)),
-        Question::HasRangeHint => {
-            Answer::Truth(marks::has_range_hint(table, n, used, parent, key))
-        }
+        Question::FindChild => Answer::Number(facts.find_child(parent, key).unwrap_or(0)),
+        Question::Missing => Answer::Number(facts.missing(parent, key)),
+        Question::HasRangeHint => Answer::Truth(marks::has_range_hint(facts, parent, key)),
     }
 }

@@ -1,63 +1,45 @@
-// Changes of a path that is there or may be added. Each answers how many records are used then.
+// Changes of a path that is there or may be added.
 ghost use Rattle.std.specs.Prelude.{◌≡◌, ◌≤◌, ◌<◌};
-ghost use Rattle.limits.specs.Limits.{records_max};
-ghost use Rattle.facts.specs.State.{nodes};
 ghost use Rattle.paths.specs.Find.{find_in};
-ghost use Rattle.paths.specs.Shape.{Shaped};
+ghost use Rattle.paths.specs.Lent.{facts_of};
 
 use crate::answer::Answer;
 use crate::operation::{Change, Child};
+use paths::Facts;
 
-fn insert(table: &mut [u32], n: u32, used: u32, p: u32, k: u32) -> (Answer, u32)
-    requires shaped { Shaped table.old used n }
-    requires le_p { (1 ≤ p) × (p ≤ used) × (n ≤ records_max) }
-    requires used_lt_n { find_in (nodes table.old used) p k ≡ 0 → used < n }
-    ensures { Shaped table.new result.1 n }
+fn insert(facts: &mut Facts, p: u32, k: u32) -> Answer
+    requires le_p { (1 ≤ p) × (p ≤ facts.old.used) }
+    requires room { find_in (facts_of facts.old) p k ≡ 0 → facts.old.used < facts.old.records }
 {
-    if paths::find_child(table, used, p, k) != 0 {
-        return (Answer::Skipped, used);
+    match facts.find_child(p, k) {
+        Some(_) => Answer::Skipped,
+        None => Answer::Number(facts.insert_child(p, k)),
     }
-    let new = paths::insert_child(table, n, used, p, k);
-    (Answer::Number(new), new)
 }
 
 // The change, where there is room for the path.
-fn make(table: &mut [u32], n: u32, used: u32, change: Change, p: u32, k: u32) -> (Answer, u32)
-    requires shaped { Shaped table.old used n }
-    requires le_p { (1 ≤ p) × (p ≤ used) × (n ≤ records_max) }
-    requires used_lt_n { find_in (nodes table.old used) p k ≡ 0 → used < n }
-    ensures { Shaped table.new result.1 n }
+fn make(facts: &mut Facts, change: Change, p: u32, k: u32) -> Answer
+    requires le_p { (1 ≤ p) × (p ≤ facts.old.used) }
+    requires room { find_in (facts_of facts.old) p k ≡ 0 → facts.old.used < facts.old.records }
 {
     match change {
-        Change::InsertChild => insert(table, n, used, p, k),
-        Change::EnsureChild => {
-            let ensured = paths::ensure_child(table, n, used, p, k);
-            (Answer::Number(ensured.number), ensured.used)
-        }
-        Change::GetOrCreate => {
-            let made = paths::get_or_create(table, n, used, p, k);
-            (Answer::Number(made.number), made.used)
-        }
-        Change::SetTname { name, confidence } => {
-            let reached = marks::set_tname(table, n, used, p, k, name, confidence);
-            (Answer::Done, reached)
-        }
-        Change::MarkNotBool => (Answer::Done, marks::mark_not_bool(table, n, used, p, k)),
-        Change::InsertNotBool => (Answer::Done, marks::insert_not_bool(table, n, used, p, k)),
+        Change::InsertChild => return insert(facts, p, k),
+        Change::EnsureChild => return Answer::Number(facts.ensure_child(p, k)),
+        Change::GetOrCreate => return Answer::Number(facts.get_or_create(p, k)),
+        Change::SetTname { name, confidence } => marks::set_tname(facts, p, k, name, confidence),
+        Change::MarkNotBool => marks::mark_not_bool(facts, p, k),
+        Change::InsertNotBool => marks::insert_not_bool(facts, p, k),
     }
+    Answer::Done
 }
 
-pub fn change(table: &mut [u32], n: u32, used: u32, change: Change, child: Child) -> (Answer, u32)
-    requires shaped { Shaped table.old used n }
-    requires n_le_records_max { n ≤ records_max }
-    ensures { Shaped table.new result.1 n }
-{
+pub fn change(facts: &mut Facts, change: Change, child: Child) -> Answer {
     let Child { parent, key } = child;
-    if parent < 1 || used < parent {
-        return (Answer::Skipped, used);
+    if parent < 1 || facts.used < parent {
+        return Answer::Skipped;
     }
-    if n < used + paths::missing(table, used, parent, key) {
-        return (Answer::Skipped, used);
+    if facts.records < facts.used + facts.missing(parent, key) {
+        return Answer::Skipped;
     }
-    make(table, n, used, change, parent, key)
+    make(facts, change, parent, key)
 }

@@ -6,15 +6,13 @@
 
 mod vector;
 
-use facts::Records;
 use pipe::Pipe;
 use std::io;
 use vector::{count, table, used};
 use vectors::{for_each, put_name};
 
 fn answer(table: &[u32], used: u32) -> &'static str {
-    let records = facts::record_count(table.len());
-    let Records::Count(n) = records else {
+    let Ok(n) = facts::record_count(table.len()) else {
         return "refused 1";
     };
     if facts::is_sound(table, n, used) {

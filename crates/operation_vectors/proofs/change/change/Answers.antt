@@ -3,5 +3,5 @@ use Rattle.std.proofs.Common.{rules}
 use Rattle.operation_vectors.proofs.Room.{room}
 use Rattle.operation_vectors.proofs.change.change.Goals as goal
 
-pub make-requires-clause-used_lt_n : goal.make-requires-clause-used_lt_n
-make-requires-clause-used_lt_n c = search (room, rules)
+pub make-requires-clause-room : goal.make-requires-clause-room
+make-requires-clause-room c = search (room, rules)
