@@ -1,13 +1,12 @@
 -- The calls in numbers, as a host sees them: which number says what, and what is written to the numbers that a host
 -- lends for an answer's values. The step answers by document 01's number (0 for a call that is taken) and needs no more
 -- than its own definition; here are the fresh call, the closing and the text call.
-use Rattle.std.specs.Prelude.{ℕ, ◌≡◌, cond, List, eqb}
+use Rattle.std.specs.Prelude.{ℕ, ◌≡◌, cond, List, Option, Some, None, eqb}
 use Rattle.limits.specs.Refusal.{taken}
 use Rattle.word.specs.Numbers.{limbs_at}
 use Rattle.head.specs.Held.{Held, held}
 use Rattle.head.specs.Fresh as fresh-call
-use Rattle.closing.specs.declared.Packed.{Packed}
-use Rattle.closing.specs.declared.Packed.TheVariants.{Absent, Word}
+use Rattle.word.specs.declared.U256.{U256}
 use Rattle.closing.specs.Answer.{Verdict, refused, none, over, granted, number_of}
 use Rattle.closing.specs.Words.{Handed, hand}
 use Rattle.closing.specs.Call.{Outcome}
@@ -46,8 +45,8 @@ values_after over v = values kind_over 0 0 0
 values_after (granted entries left length) v = values kind_granted entries left length
 
 -- "an optional packed word": a flag, 0 for none, beside the word's eight numbers, which are there at flag 0 too
-unfoldable pub packed_of : ℕ → List ℕ → Packed
-packed_of flag word = cond (eqb flag 0) Absent (Word (limbs_at word 0))
+unfoldable pub packed_of : ℕ → List ℕ → Option U256
+packed_of flag word = cond (eqb flag 0) None (Some (limbs_at word 0))
 
 -- what a closing is handed beside the head, the table and the type slice
 abbrev pub hand_numbers : List ℕ → ℕ → ℕ → List ℕ → Handed

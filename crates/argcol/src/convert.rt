@@ -1,14 +1,15 @@
 // Answers as numbers, and the packed word from numbers.
-ghost use Rattle.std.specs.Prelude.{◌≡◌};
+ghost use Rattle.std.specs.Prelude.{◌≡◌, Ok};
 ghost use Rattle.closing.specs.Answer.{verdict_of};
 ghost use Rattle.head.specs.Held.{held};
 ghost use Rattle.argcol.specs.Numbers.{values_after, packed_of, hand_numbers, ClosingOutcome};
 ghost use Rattle.argcol.specs.Lengths.{length_after};
 
 use crate::{Ended, Values};
-use closing::{Closing, Packed};
+use closing::Closing;
 use head::Head;
-use limits::Refusal;
+use limits::{Refusal, answer_number};
+use word::U256;
 use word::numbers::from_numbers;
 
 // The kinds of a closing that is taken.
@@ -25,11 +26,11 @@ pub fn text_length(answer: Result<usize, Refusal>, lent: usize) -> usize
     answer.unwrap_or(lent)
 }
 
-// A closing's answer in numbers, or what a host has lent for them where the call is refused.
-fn values_after(answer: Closing, lent: Values) -> Values
-    ensures { result ≡ values_after (verdict_of answer) lent }
+// What is said of a list, in numbers.
+fn values_of(said: Closing) -> Values
+    ensures { (lent : Values) → result ≡ values_after (verdict_of (Ok said)) lent }
 {
-    match answer {
+    match said {
         Closing::Nothing => Values {
             kind: NONE,
             entries: 0,
@@ -48,18 +49,28 @@ fn values_after(answer: Closing, lent: Values) -> Values
             left: granted.left,
             length: granted.length,
         },
-        Closing::Refused(refusal) => lent,
+    }
+}
+
+// A closing's answer in numbers, or what a host has lent for them where the call is refused.
+fn values_after(answer: Result<Closing, Refusal>, lent: Values) -> Values
+    ensures { result ≡ values_after (verdict_of answer) lent }
+{
+    match answer {
+        Ok(said) => values_of(said),
+        Err(_) => lent,
     }
 }
 
 // The packed word: at flag 0 there is none.
-fn read_packed(flag: u32, word: &[u32; 8]) -> Packed
+#[tactic(auto, unfolding(crate::specs::Numbers::packed_of))]
+fn read_packed(flag: u32, word: &[u32; 8]) -> Option<U256>
     ensures { result ≡ packed_of flag word.now }
 {
     if flag == 0 {
-        return Packed::Absent;
+        return None;
     }
-    Packed::Word(from_numbers(word, 0))
+    Some(from_numbers(word, 0))
 }
 
 // Closes.
@@ -79,11 +90,9 @@ pub fn close(
 {
     let packed = read_packed(flag, word);
     let closed = closing::close(head, table, code, start, packed, types);
-    let next = closed.head;
-    let answer = closed.answer;
     Ended {
-        head: next,
-        number: closing::number_of(answer),
-        values: values_after(answer, lent),
+        head: closed.head,
+        number: answer_number(&closed.answer),
+        values: values_after(closed.answer, lent),
     }
 }

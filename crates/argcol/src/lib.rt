@@ -57,8 +57,7 @@ pub fn argcol_fresh(used: &mut u32, active: &mut u32, table: &mut [u32]) -> u32
     let opened = fresh(head, table);
     *used = opened.head.used;
     *active = opened.head.active;
-    let answer = opened.answer;
-    facts::number_of(answer)
+    answer_number(&opened.answer)
 }
 
 // The step.
@@ -85,8 +84,7 @@ pub fn argcol_step(
     let stepped = step(head, table, code, stack, memory, numbers);
     *used = stepped.head.used;
     *active = stepped.head.active;
-    let answer = stepped.answer;
-    step::number_of(answer)
+    answer_number(&stepped.answer)
 }
 
 // The closing. The packed word is there unless flag is 0. The last four are lent for the answer's values; only a call

@@ -1,14 +1,16 @@
 // The head by value again, around the thin functions, for programs that hold it by value.
+ghost use Rattle.limits.specs.Refusal.{answer_number};
 ghost use Rattle.head.specs.Held.{held};
-ghost use Rattle.step.specs.Call.{Outcome, lend, number_of};
+ghost use Rattle.step.specs.Call.{Outcome, lend};
 ghost use Rattle.closing.specs.Words.{hand};
 ghost use Rattle.closing.specs.Answer.{verdict_of};
 ghost use Rattle.closing.specs.Call.{Outcome as ClosingOutcome};
 
 use crate::{close, step};
-use closing::{Closed, Packed};
+use closing::Closed;
 use head::Head;
 use step::Stepped;
+use word::U256;
 
 // A step, by the head that is lent.
 pub fn run_step(
@@ -21,14 +23,11 @@ pub fn run_step(
 ) -> Stepped
     ensures { Outcome
         (lend (held head table.old) stack.old memory.old)
-        code.now numbers.now (number_of result.answer)
+        code.now numbers.now (answer_number result.answer)
         (lend (held result.head table.new) stack.new memory.new) }
 {
     let answer = step(&mut head, table, code, stack, memory, numbers);
-    Stepped {
-        head: head,
-        answer: answer,
-    }
+    Stepped { head, answer }
 }
 
 // A closing, by the head that is lent.
@@ -37,7 +36,7 @@ pub fn run_close(
     table: &mut [u32],
     code: &[u8],
     start: u32,
-    packed: Packed,
+    packed: Option<U256>,
     types: &mut [u16],
 ) -> Closed
     ensures { ClosingOutcome (held head table.old) types.old
@@ -45,8 +44,5 @@ pub fn run_close(
         (held result.head table.new) types.new }
 {
     let answer = close(&mut head, table, code, start, packed, types);
-    Closed {
-        head: head,
-        answer: answer,
-    }
+    Closed { head, answer }
 }

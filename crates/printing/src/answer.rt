@@ -4,13 +4,13 @@ ghost use Rattle.limits.specs.Limits.{codes_max};
 ghost use Rattle.trace.specs.Lines.{list_room};
 
 use crate::Stop;
-use closing::Packed;
 use head::Head;
 use limits::TYPES_ROOM;
 use report::close_into;
 use spell::Writer;
 use std::io;
 use trace::{LINE_ROOM, LIST_ROOM, put_refused};
+use word::U256;
 
 // "`refused N at S` (number, step from 1, 0 for closing)".
 fn put_refusal(rt: &impl Print, number: u32, step: u32) -> io::Result<()> {
@@ -36,7 +36,7 @@ fn put_closing(
     table: &mut [u32],
     code: &[u8],
     start: u32,
-    packed: Packed,
+    packed: Option<U256>,
     types: &mut [u16],
     out: &mut [u8],
 ) -> io::Result<()>
@@ -53,7 +53,7 @@ pub fn close_trace(
     table: &mut [u32],
     code: &[u8],
     start: u32,
-    packed: Packed,
+    packed: Option<U256>,
 ) -> io::Result<()> {
     let mut types = [0u16; TYPES_ROOM];
     let mut lines = [0u8; LIST_ROOM];

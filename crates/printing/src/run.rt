@@ -7,7 +7,6 @@ ghost use Rattle.printing.specs.Header.{packed_in};
 use crate::Stop;
 use crate::answer::{close_trace, put_stop};
 use crate::group::take_group;
-use closing::Packed;
 use head::Head;
 use limits::input::{
     HEADER_FLAG, HEADER_LENGTH, HEADER_PACKED, HEADER_START, HEADER_WIDTH, NUMBER_BYTES,
@@ -16,6 +15,7 @@ use limits::input::{
 use std::io;
 use std::io::Read;
 use trace::{GROUP_ROOM, header_fits, read_numbers};
+use word::U256;
 use word::numbers::from_numbers;
 
 // Bytes of the header.
@@ -26,18 +26,18 @@ const HEADER_BYTES: usize = HEADER_WIDTH * NUMBER_BYTES;
 struct Header {
     length: usize,
     start: u32,
-    packed: Packed,
+    packed: Option<U256>,
 }
 
 // "packed flag, packed word (eight numbers, present at flag 0 too)".
-fn packed_of(header: &[u32]) -> Packed
+fn packed_of(header: &[u32]) -> Option<U256>
     requires { size header.now ≡ header_width }
     ensures { result ≡ packed_in header.now }
 {
     if header[HEADER_FLAG] == 0 {
-        return Packed::Absent;
+        return None;
     }
-    Packed::Word(from_numbers(header, HEADER_PACKED))
+    Some(from_numbers(header, HEADER_PACKED))
 }
 
 fn header_of(header: &[u32]) -> Result<Header, Stop>

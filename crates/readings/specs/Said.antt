@@ -6,7 +6,7 @@ use Rattle.types.specs.Tree.{AbiTypes, count}
 use Rattle.facts.specs.State.{Node, node_of}
 use Rattle.head.specs.Asked.{first_no}
 use Rattle.list.specs.Types.{list_of}
-use Rattle.closing.specs.declared.Packed.TheVariants.{Absent}
+use Rattle.std.specs.Prelude.{None}
 use Rattle.closing.specs.Words.{Handed, filled}
 use Rattle.closing.specs.Answer.{Verdict, refused, none, over, granted}
 use Rattle.closing.specs.Call.{closing_tests, answer_by}
@@ -35,7 +35,7 @@ records = trace_records
 
 -- "Empty code, no packed word"
 abbrev pub empty_code : Handed
-empty_code = record { code = []; start = 0; packed = Absent }
+empty_code = record { code = []; start = 0; packed = None }
 
 -- a type slice that question 9 takes
 abbrev pub types : List ℕ

@@ -27,7 +27,9 @@ use Rattle.trace.specs.Text.{refused_line}
 use Rattle.trace.specs.Lines.{ListStored}
 use Rattle.trace.proofs.Pieces.{stored_first}
 use Rattle.closing.specs.declared.Closing.{Closing}
-use Rattle.closing.specs.declared.Closing.TheVariants.{Refused, Nothing, Over}
+use Rattle.closing.specs.declared.Closing.TheVariants.{Nothing, Over}
+use Rattle.std.specs.Prelude.{Ok, Err}
+use Rattle.std.specs.declared.result.Result.{Result}
 use Rattle.closing.specs.declared.Closing.TheVariants.{Granted as GrantedAnswer}
 use Rattle.closing.specs.declared.Granted.{Granted}
 use Rattle.closing.specs.Answer.{Verdict, refused, none, over, granted, verdict_of, answer_of, types_after}
@@ -36,32 +38,39 @@ use Rattle.closing.specs.Call.{tests_of, questions, state_after, Outcome}
 use Rattle.report.specs.Answer.{answer_text}
 use Rattle.report.specs.Closed.{Reported}
 
-module _ (answer : Closing) (cs out : List ℕ) (from r : ℕ) (out' : List ℕ) where
-  by : (v : Verdict) → verdict_of answer ≡ v → Reported v cs out from r out' → Reported (verdict_of answer) cs out from r out'
+module _ (said : Closing) (cs out : List ℕ) (from r : ℕ) (out' : List ℕ) where
+  by : (v : Verdict) → verdict_of (Ok said) ≡ v → Reported v cs out from r out' → Reported (verdict_of (Ok said)) cs out from r out'
   by v e f = subst (λ (x : Verdict). Reported x cs out from r out') (sym e) f
 
-  pub report_none : answer ≡ Nothing → StoredAt (ascii "none\n") out from r out'
-      → Reported (verdict_of answer) cs out from r out'
-  unfolding answer_text
-  report_none e s = by none (ap verdict_of e) (λ ts rest h c n. s)
+  said_so : (f : Closing) → said ≡ f → verdict_of (Ok said) ≡ verdict_of (Ok f)
+  said_so f e = ap (λ (x : Closing). verdict_of (Ok x)) e
 
-  pub report_over : answer ≡ Over → StoredAt (ascii "over\n") out from r out' → Reported (verdict_of answer) cs out from r out'
+  pub report_none : said ≡ Nothing → StoredAt (ascii "none\n") out from r out'
+      → Reported (verdict_of (Ok said)) cs out from r out'
   unfolding answer_text
-  report_over e s = by over (ap verdict_of e) (λ ts rest h c n. s)
+  report_none e s = by none (said_so Nothing e) (λ ts rest h c n. s)
 
-  pub report_list : (g : Granted) → answer ≡ GrantedAnswer g
-      → ListStored g.entries g.left g.length cs out from r out' → Reported (verdict_of answer) cs out from r out'
+  pub report_over : said ≡ Over → StoredAt (ascii "over\n") out from r out' → Reported (verdict_of (Ok said)) cs out from r out'
+  unfolding answer_text
+  report_over e s = by over (said_so Over e) (λ ts rest h c n. s)
+
+  pub report_list : (g : Granted) → said ≡ GrantedAnswer g
+      → ListStored g.entries g.left g.length cs out from r out' → Reported (verdict_of (Ok said)) cs out from r out'
   unfolding answer_text
   report_list g e f =
-      by (granted g.entries g.left g.length) (ap verdict_of e)
+      by (granted g.entries g.left g.length) (said_so (GrantedAnswer g) e)
       (λ ts rest h c n. f ts rest record { formed = h; number = n; spelt = c })
 
-  pub report_refused : (q : Refusal) (number : ℕ) → answer ≡ Refused q → number ≡ refusal_number q
+-- answered, or refused
+module _ (answer : Result Closing Refusal) (cs out : List ℕ) (from r : ℕ) (out' : List ℕ) where
+  pub report_said : (said : Closing) → answer ≡ Ok said → Reported (verdict_of (Ok said)) cs out from r out'
+      → Reported (verdict_of answer) cs out from r out'
+  report_said said e f = rw e f
+
+  pub report_refused : (q : Refusal) (number : ℕ) → answer ≡ Err q → number ≡ refusal_number q
       → StoredAt (refused_line number 0) out from r out' → Reported (verdict_of answer) cs out from r out'
   unfolding answer_text
-  report_refused q number e n line =
-      by (refused (refusal_number q)) (ap verdict_of e)
-      (λ ts rest h c m. subst (λ (x : ℕ). StoredAt (refused_line x 0) out from r out') n line)
+  report_refused q number e n line = rw (e, ← n) (λ ts rest h c m. line)
 
 -- the outcome's text
 module _ (out : List ℕ) (from r : ℕ) (out' : List ℕ) where

@@ -1,7 +1,7 @@
 // What is printed of a closing, on slices: `refused N at 0`, `none`, `over` or the list.
 #![tactic(auto)]
 
-ghost use Rattle.std.specs.Prelude.{◌+◌, ◌≤◌, length};
+ghost use Rattle.std.specs.Prelude.{◌+◌, ◌≤◌, Ok, length};
 ghost use Rattle.limits.specs.Limits.{codes_max};
 ghost use Rattle.spell.specs.Writer.{SameSlice};
 ghost use Rattle.trace.specs.Lines.{list_room};
@@ -11,10 +11,12 @@ ghost use Rattle.closing.specs.Answer.{verdict_of};
 ghost use Rattle.report.specs.Closed.{Reported, Printed};
 
 use by_reference::run_close;
-use closing::{Closing, Packed};
+use closing::Closing;
 use head::Head;
+use limits::Refusal;
 use spell::Writer;
 use trace::{put_list, put_refused};
+use word::U256;
 
 // What a closing that is printed leaves beside the lent slices: the head, and how many bytes were stored.
 #[derive(Clone, Copy)]
@@ -23,13 +25,13 @@ pub struct ClosedInto {
     pub length: usize,
 }
 
-// Stores the lines of an answer: "else `none`, `over` or the list".
-fn put_answer(answer: Closing, types: &[u16], w: &mut Writer)
+// Stores the lines of what is said of a list: "else `none`, `over` or the list".
+fn put_said(said: Closing, types: &[u16], w: &mut Writer)
     requires { (length types.now ≤ codes_max) × (w.old.to + list_room ≤ length w.old.out.now) }
-    ensures reported { Reported (verdict_of answer) types.now w.old.out.now w.old.to w.new.to w.new.out.now }
+    ensures reported { Reported (verdict_of (Ok said)) types.now w.old.out.now w.old.to w.new.to w.new.out.now }
     ensures slice { SameSlice w.old w.new }
 {
-    match answer {
+    match said {
         Closing::Nothing => w.put(b"none\n"),
         Closing::Over => w.put(b"over\n"),
         Closing::Granted(granted) => put_list(
@@ -39,7 +41,18 @@ fn put_answer(answer: Closing, types: &[u16], w: &mut Writer)
             granted.length,
             types,
         ),
-        Closing::Refused(refusal) => put_refused(w, u32::from(refusal), 0),
+    }
+}
+
+// Stores the lines of an answer.
+fn put_answer(answer: Result<Closing, Refusal>, types: &[u16], w: &mut Writer)
+    requires { (length types.now ≤ codes_max) × (w.old.to + list_room ≤ length w.old.out.now) }
+    ensures reported { Reported (verdict_of answer) types.now w.old.out.now w.old.to w.new.to w.new.out.now }
+    ensures slice { SameSlice w.old w.new }
+{
+    match answer {
+        Ok(said) => put_said(said, types, w),
+        Err(refusal) => put_refused(w, u32::from(refusal), 0),
     }
 }
 
@@ -49,7 +62,7 @@ pub fn close_into(
     table: &mut [u32],
     code: &[u8],
     start: u32,
-    packed: Packed,
+    packed: Option<U256>,
     types: &mut [u16],
     out: &mut [u8],
 ) -> ClosedInto

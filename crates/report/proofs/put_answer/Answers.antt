@@ -1,16 +1,10 @@
--- Answer by answer.
-use Rattle.report.proofs.Reporting.{report_none, report_over, report_list, report_refused}
+-- Answered, or refused.
+use Rattle.report.proofs.Reporting.{report_said, report_refused}
 use Rattle.report.proofs.put_answer.Goals as goal
 
-pub returns-in-Nothing-clause-reported : goal.returns-in-Nothing-clause-reported
-returns-in-Nothing-clause-reported c = report_none _ _ _ _ _ _ c.in-Nothing.is c.put.ensures.stored
+pub returns-in-Ok-clause-reported : goal.returns-in-Ok-clause-reported
+returns-in-Ok-clause-reported c = report_said _ _ _ _ _ _ _ c.in-Ok.is c.put_said.ensures.reported
 
-pub returns-in-Over-clause-reported : goal.returns-in-Over-clause-reported
-returns-in-Over-clause-reported c = report_over _ _ _ _ _ _ c.in-Over.is c.put-in-Over.ensures.stored
-
-pub returns-in-Granted-clause-reported : goal.returns-in-Granted-clause-reported
-returns-in-Granted-clause-reported c = report_list _ _ _ _ _ _ _ c.in-Granted.is c.put_list.ensures.list_stored
-
-pub returns-in-Refused-clause-reported : goal.returns-in-Refused-clause-reported
-returns-in-Refused-clause-reported c =
-    report_refused _ _ _ _ _ _ _ _ c.in-Refused.is c.from.ensures c.put_refused.ensures.stored
+pub returns-in-Err-clause-reported : goal.returns-in-Err-clause-reported
+returns-in-Err-clause-reported c =
+    report_refused _ _ _ _ _ _ _ _ c.in-Err.is c.from.ensures c.put_refused.ensures.stored
