@@ -2,8 +2,8 @@
 // number, its answer or `skipped`, how many records are used then, and whether the table is sound; and all used records
 // after each list. An entry is 24 bytes: six numbers of 32 bits, highest byte first. A list begins with an entry of a
 // zero, how many records its table has and how many operations follow; each of them is an entry of the operation's
-// number (operation.rt) and its arguments. tools/operation_vectors.py makes the lists, and the answers from a model of its
-// own.
+// number (operation.rt) and its arguments. tools/operation_vectors.py makes the lists, and the answers from a model of
+// its own.
 #![tactic(auto)]
 
 mod answer;

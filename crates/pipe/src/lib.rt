@@ -1,6 +1,6 @@
 // Standard input and output of the programs, by C's `read` and `write` alone: std's own streams also ask C what went
-// wrong, by two more calls that would have to be believed. What can't be read is the end of the input, and what can't be
-// written is left.
+// wrong, by two more calls that would have to be believed. What can't be read is the end of the input, and what can't
+// be written is left.
 #![tactic(auto)]
 
 use std::fmt::Display;

@@ -14,7 +14,14 @@ use printing::print_trace;
 use runs::Runs;
 use std::io;
 use std::io::Read;
-use vectors::{for_each, put_name, read_number};
+use vectors::{for_each, put_name};
+
+// The next number, lowest byte first. Unlike the number of `vectors`, one that the input ends in keeps its first bytes.
+fn read_number(input: &mut impl Read) -> u32 {
+    let mut bytes = [0u8; 4];
+    let _ = input.read_exact(&mut bytes);
+    u32::from_le_bytes(bytes)
+}
 
 fn replay_one(rt: &impl Print, input: &mut impl Read, name: &[u8; 40]) -> io::Result<()> {
     let n = read_number(input) as usize;
