@@ -1,6 +1,7 @@
 // The head by value again, around the thin functions, for programs that hold it by value.
+ghost use Rattle.limits.specs.Refusal.{answer_number};
 ghost use Rattle.head.specs.Held.{held};
-ghost use Rattle.step.specs.Call.{Outcome, lend, number_of};
+ghost use Rattle.step.specs.Call.{Outcome, lend};
 ghost use Rattle.closing.specs.Words.{hand};
 ghost use Rattle.closing.specs.Answer.{verdict_of};
 ghost use Rattle.closing.specs.Call.{Outcome as ClosingOutcome};
@@ -21,14 +22,11 @@ pub fn run_step(
 ) -> Stepped
     ensures { Outcome
         (lend (held head table.old) stack.old memory.old)
-        code.now numbers.now (number_of result.answer)
+        code.now numbers.now (answer_number result.answer)
         (lend (held result.head table.new) stack.new memory.new) }
 {
     let answer = step(&mut head, table, code, stack, memory, numbers);
-    Stepped {
-        head: head,
-        answer: answer,
-    }
+    Stepped { head, answer }
 }
 
 // A closing, by the head that is lent.
@@ -45,8 +43,5 @@ pub fn run_close(
         (held result.head table.new) types.new }
 {
     let answer = close(&mut head, table, code, start, packed, types);
-    Closed {
-        head: head,
-        answer: answer,
-    }
+    Closed { head, answer }
 }

@@ -5,30 +5,27 @@
 
 mod by_value;
 
-ghost use Rattle.facts.specs.Fresh.{number_of as fresh_number, count_of};
+ghost use Rattle.limits.specs.Refusal.{answer_number};
+ghost use Rattle.facts.specs.Fresh.{count_of};
 ghost use Rattle.head.specs.Held.{held};
 ghost use Rattle.head.specs.Fresh.{Outcome as FreshOutcome};
-ghost use Rattle.step.specs.Call.{Outcome, lend, number_of};
+ghost use Rattle.step.specs.Call.{Outcome, lend};
 ghost use Rattle.closing.specs.Words.{hand};
 ghost use Rattle.closing.specs.Answer.{verdict_of};
 ghost use Rattle.closing.specs.Call.{Outcome as ClosingOutcome};
 
 pub use by_value::{run_close, run_step};
 use closing::{Closing, Packed};
-use facts::Records;
 use head::Head;
-use step::StepAnswer;
+use limits::Refusal;
 
 // Leaves a lone root, the other records zero, and the decoder active; or refuses a table that question 1 doesn't take.
-pub fn fresh(head: &mut Head, table: &mut [u32]) -> Records
-    ensures { FreshOutcome (held head.old table.old) (fresh_number result) (count_of result)
+pub fn fresh(head: &mut Head, table: &mut [u32]) -> Result<u32, Refusal>
+    ensures { FreshOutcome (held head.old table.old) (answer_number result) (count_of result)
         (held head.new table.new) }
 {
-    let before = Head {
-        used: head.used,
-        active: head.active,
-    };
-    let opened = head::fresh(before, table);
+    let Head { used, active } = *head;
+    let opened = head::fresh(Head { used, active }, table);
     head.used = opened.head.used;
     head.active = opened.head.active;
     opened.answer
@@ -42,16 +39,14 @@ pub fn step(
     stack: &mut [u32],
     memory: &mut [u32],
     numbers: &[u32],
-) -> StepAnswer
+) -> Result<(), Refusal>
     ensures { Outcome
         (lend (held head.old table.old) stack.old memory.old)
-        code.now numbers.now (number_of result)
+        code.now numbers.now (answer_number result)
         (lend (held head.new table.new) stack.new memory.new) }
 {
-    let before = Head {
-        used: head.used,
-        active: head.active,
-    };
+    let Head { used, active } = *head;
+    let before = Head { used, active };
     let stepped = step::step(before, table, code, stack, memory, numbers);
     head.used = stepped.head.used;
     head.active = stepped.head.active;
@@ -71,10 +66,8 @@ pub fn close(
         (hand code.now start packed) (verdict_of result)
         (held head.new table.new) types.new }
 {
-    let before = Head {
-        used: head.used,
-        active: head.active,
-    };
+    let Head { used, active } = *head;
+    let before = Head { used, active };
     let closed = closing::close(before, table, code, start, packed, types);
     head.used = closed.head.used;
     head.active = closed.head.active;
