@@ -1,11 +1,11 @@
 -- What becomes of the bytes of a group: they are no whole one, or their step is put.
-use Rattle.std.specs.Prelude.{ℕ, ◌≡◌, List}
+use Rattle.std.specs.Prelude.{ℕ, ◌≡◌, List, Option, Some, None}
+use Rattle.limits.specs.Refusal.{answer_number}
 use Rattle.head.specs.declared.Head.{Head}
 use Rattle.head.specs.Held.{Held, held}
-use Rattle.step.specs.Call.{lend, number_of}
+use Rattle.step.specs.declared.Stepped.{Stepped}
+use Rattle.step.specs.Call.{lend}
 use Rattle.step.specs.Call.{Outcome as StepOutcome}
-use Rattle.groups.specs.declared.GroupAnswer.{GroupAnswer}
-use Rattle.groups.specs.declared.GroupAnswer.TheVariants.{NotGroup, Step}
 use Rattle.groups.specs.Group.{IsGroup, step_in, stack_in, memory_in}
 
 -- what an answer says: `input refused`, or document 01's number of the step's answer, 0 for a step that is taken
@@ -13,14 +13,14 @@ pub data Verdict : Type 0 where
   input_refused : Verdict
   answered : ℕ → Verdict
 
-abbrev pub verdict_of : GroupAnswer → Verdict
-verdict_of NotGroup = input_refused
-verdict_of (Step s) = answered (number_of s.answer)
+abbrev pub verdict_of : Option Stepped → Verdict
+verdict_of None = input_refused
+verdict_of (Some s) = answered (answer_number s.answer)
 
 -- what is held behind an answer: the head that it has, or the one from before
-abbrev pub held_after : GroupAnswer → Head → List ℕ → Held
-held_after NotGroup head table = held head table
-held_after (Step s) head table = held s.head table
+abbrev pub held_after : Option Stepped → Head → List ℕ → Held
+held_after None head table = held head table
+held_after (Some s) head table = held s.head table
 
 -- the step call with the parts of a group: its number, and what is held behind it. The stack and the memory that it
 -- leaves end with the group

@@ -5,12 +5,4 @@
 mod take;
 mod whole;
 
-use step::Stepped;
 pub use take::take_group;
-
-// The bytes are no whole group within the sizes, or what the step call answered.
-#[derive(Clone, Copy)]
-pub enum GroupAnswer {
-    NotGroup,
-    Step(Stepped),
-}

@@ -3,13 +3,12 @@
 ghost use Rattle.std.specs.Prelude.{◌≡◌, ◌*◌, length};
 ghost use Rattle.limits.specs.Input.{trace_slots_max, trace_entries_max};
 ghost use Rattle.limits.specs.Layout.{slot_width, entry_width};
-ghost use Rattle.step.specs.Call.{number_of};
+ghost use Rattle.limits.specs.Refusal.{answer_number};
 ghost use Rattle.trace.specs.Group.{slot_numbers, entry_numbers};
 ghost use Rattle.groups.specs.Group.{IsGroup};
 ghost use Rattle.head.specs.Held.{held};
 ghost use Rattle.groups.specs.Call.{verdict_of, held_after, Put, Outcome};
 
-use crate::GroupAnswer;
 use crate::whole::is_group;
 use head::Head;
 use limits::input::{NUMBER_BYTES, TRACE_ENTRIES_MAX, TRACE_SLOTS_MAX};
@@ -34,7 +33,7 @@ fn put_step(
     requires group { IsGroup bytes.now }
     requires stack_len { (length stack.old ≡ slot_numbers bytes.now) × (length memory.old ≡ entry_numbers bytes.now) }
     ensures { Put (held head table.old) code.now bytes.now
-        (number_of result.answer) (held result.head table.new) }
+        (answer_number result.answer) (held result.head table.new) }
 {
     let mut numbers = [0u32; STEP_WIDTH];
     let behind = FRONT_BYTES + stack.len() * NUMBER_BYTES;
@@ -57,7 +56,7 @@ fn put_sized(
     requires stack_len { (length stack.old ≡ trace_slots_max * slot_width)
         × (length memory.old ≡ trace_entries_max * entry_width) }
     ensures { Put (held head table.old) code.now bytes.now
-        (number_of result.answer) (held result.head table.new) }
+        (answer_number result.answer) (held result.head table.new) }
 {
     let s = slot_count(bytes) as usize * SLOT_WIDTH;
     let m = entry_count(bytes) as usize * ENTRY_WIDTH;
@@ -71,16 +70,15 @@ fn put_sized(
     )
 }
 
-// Takes the step of a group, if the bytes are a whole one; if they are not, nothing is changed.
-pub fn take_group(head: Head, table: &mut [u32], code: &[u8], bytes: &[u8]) -> GroupAnswer
+// What the step call answers to a group; nothing, with nothing changed, if the bytes are no whole one within the sizes.
+pub fn take_group(head: Head, table: &mut [u32], code: &[u8], bytes: &[u8]) -> Option<Stepped>
     ensures { Outcome (held head table.old) code.now bytes.now (verdict_of result)
         (held_after result head table.new) }
 {
     if !is_group(bytes) {
-        return GroupAnswer::NotGroup;
+        return None;
     }
     let mut stack = [0u32; STACK_ROOM];
     let mut memory = [0u32; MEMORY_ROOM];
-    let stepped = put_sized(head, table, code, bytes, &mut stack, &mut memory);
-    GroupAnswer::Step(stepped)
+    Some(put_sized(head, table, code, bytes, &mut stack, &mut memory))
 }

@@ -4,7 +4,6 @@ ghost use Rattle.std.specs.Prelude.{◌≡◌, ◌+◌, ◌≤◌, length, IfOk}
 ghost use Rattle.trace.specs.Group.{group_room, front_bytes};
 
 use crate::Stop;
-use groups::GroupAnswer;
 use head::Head;
 use std::io::Read;
 use trace::{FRONT_BYTES, group_rest};
@@ -25,11 +24,8 @@ fn put_step(
     bytes: &[u8],
     step: u32,
 ) -> Result<Head, Stop> {
-    let answer = groups::take_group(head, table, code, bytes);
-    // never so for bytes that are as many as their front says
-    let GroupAnswer::Step(stepped) = answer else {
-        return Err(Stop::BadInput);
-    };
+    // there always is one for bytes that are as many as their front says
+    let stepped = groups::take_group(head, table, code, bytes).ok_or(Stop::BadInput)?;
     match stepped.answer {
         Ok(()) => Ok(stepped.head),
         Err(refusal) => Err(Stop::Refused {

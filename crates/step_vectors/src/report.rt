@@ -1,19 +1,18 @@
 // What is written.
 ghost use Rattle.std.specs.Prelude.{◌≤◌};
 
-use facts::Records;
 use head::Head;
-use limits::RECORD_WIDTH;
 use limits::layout::{ENTRY_WIDTH, SLOT_WIDTH};
+use limits::{RECORD_WIDTH, Refusal};
 use std::io;
 
 // A list of more rows is written without those that are zero.
 const ROWS_MAX: usize = 64;
 
-pub fn put_records(rt: &impl Print, records: Records) -> io::Result<()> {
+pub fn put_records(rt: &impl Print, records: Result<u32, Refusal>) -> io::Result<()> {
     match records {
-        Records::Count(n) => println!(rt; " {n}"),
-        Records::Unfit => println!(rt; " refused 1"),
+        Ok(n) => println!(rt; " {n}"),
+        Err(refusal) => println!(rt; " refused {}", u32::from(refusal)),
     }
 }
 

@@ -2,6 +2,7 @@
 use crate::input::{read_code, read_head, read_list, read_pairs};
 use crate::report::{put_records, put_step};
 use head::Head;
+use limits::answer_number;
 use std::io;
 use std::io::Read;
 use vectors::read_number;
@@ -31,7 +32,7 @@ fn run_lists(
     let memory = read_list(input, &mut memory);
     let numbers = read_list(input, &mut numbers);
     let stepped = by_reference::run_step(head, table, code, stack, memory, numbers);
-    let number = step::number_of(stepped.answer);
+    let number = answer_number(&stepped.answer);
     put_step(rt, number, stepped.head, table, stack, memory)?;
     Ok(stepped.head)
 }
