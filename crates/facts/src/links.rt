@@ -74,7 +74,14 @@ fn with_record(table: &[u32], used: u32, r: u32, links: u64) -> Option<u64>
     }
     let down = with_link(table, used, r, 0, field(table, r, CHILD), links)?;
     let own = weight_of(table, r);
-    let on = with_link(table, used, field(table, r, PARENT), own, field(table, r, NEXT), down)?;
+    let on = with_link(
+        table,
+        used,
+        field(table, r, PARENT),
+        own,
+        field(table, r, NEXT),
+        down,
+    )?;
     if !is_record(table, r) {
         return None;
     }

@@ -5,7 +5,9 @@ ghost use Rattle.facts.specs.State.{node_of};
 
 use crate::Facts;
 use facts::{field, set_field};
-use limits::fields::{BLOCKED, CHILD, CONFIDENCE, COUNT, KEY, KIND, NAME, NEXT, NOT_BOOL, PARENT, SEEN};
+use limits::fields::{
+    BLOCKED, CHILD, CONFIDENCE, COUNT, KEY, KIND, NAME, NEXT, NOT_BOOL, PARENT, SEEN,
+};
 
 impl Facts<'_> {
     ghost use Rattle.limits.specs.Limits.{record_width};

@@ -13,8 +13,8 @@ pub loop-c-preserved : goal.loop-c-preserved
 loop-c-preserved c =
     let W = c.loop-c.invariant in
     elim c.if-kind-eq-KIND_ARRAY.branch [
-      then-kind-eq-KIND_ARRAY w ↦ up_array _ _ _ _ _ _ W c.loop-c-test.true _ _ (sym c.kind.ensures ∙ w.if-kind-eq-KIND_ARRAY.true) w.arrays-is c.parent-c.ensures
-    | else-kind-eq-KIND_ARRAY w ↦ up_other _ _ _ _ _ _ W c.loop-c-test.true _ _ (λ e. w.if-kind-eq-KIND_ARRAY.false (c.kind.ensures ∙ e)) w.arrays-is c.parent-c.ensures
+      | then-kind-eq-KIND_ARRAY w ↦ up_array _ _ _ _ _ _ W c.loop-c-test.true _ _ (sym c.kind.ensures ∙ w.if-kind-eq-KIND_ARRAY.true) w.arrays-is c.parent-c.ensures
+      | else-kind-eq-KIND_ARRAY w ↦ up_other _ _ _ _ _ _ W c.loop-c-test.true _ _ (λ e. w.if-kind-eq-KIND_ARRAY.false (c.kind.ensures ∙ e)) w.arrays-is c.parent-c.ensures
     ]
 
 pub returns : goal.returns

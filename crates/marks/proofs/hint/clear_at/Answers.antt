@@ -1,4 +1,4 @@
-use Rattle.std.proofs.Common.{◌≡◌, sym, ◌∙◌, arith, Bool, true, false, cond, refl, max, List}
+use Rattle.std.proofs.Common.{◌≡◌, sym, ◌∙◌, Bool, true, false, cond, refl, max, List}
 use borrow.Author.Tests.{eq-eqb, ne_eqb}
 use mir.Val.{bool_byte}
 use Rattle.limits.specs.Confidences.{by_range}
@@ -17,7 +17,7 @@ returns-then-is_range c =
     let n : Node = node_of (facts_of c.args.facts.now) c.args.r in
     let range = eq-eqb n.confidence by_range (sym c.confidence-is_range.ensures ∙ c.if-is_range.true) in
     let value : c.max.result ≡ max n.blocked (cond c.args.block 1 0) =
-        c.max.ensures ∙ (λ i. max (c.blocked-blocked.ensures i) ((c.from.ensures ∙ flag_is c.args.block) i)) in
+    c.max.ensures ∙ (λ i. max (c.blocked-blocked.ensures i) ((c.from.ensures ∙ flag_is c.args.block) i)) in
     rw range (becomes_then (λ (s : List Node). drop_name s c.args.r) _ _ _ _ (rw value at c.store.ensures) c.drop_name.ensures)
 
 pub returns-else-is_range : goal.returns-else-is_range
@@ -25,5 +25,5 @@ returns-else-is_range c =
     let n : Node = node_of (facts_of c.args.facts.now) c.args.r in
     let range = ne_eqb n.confidence by_range (λ e. c.if-is_range.false (c.confidence-is_range.ensures ∙ e)) in
     let value : c.max.result ≡ max n.blocked (cond c.args.block 1 0) =
-        c.max.ensures ∙ (λ i. max (c.blocked-blocked.ensures i) ((c.from.ensures ∙ flag_is c.args.block) i)) in
+    c.max.ensures ∙ (λ i. max (c.blocked-blocked.ensures i) ((c.from.ensures ∙ flag_is c.args.block) i)) in
     rw range (rw value at c.store.ensures)

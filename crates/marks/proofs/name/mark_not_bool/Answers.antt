@@ -1,10 +1,8 @@
 use Rattle.std.proofs.Common.{sym, ◌∙◌, refl, List}
-use borrow.Author.Tests.{eq-eqb, ne_eqb}
 use Rattle.limits.specs.Fields as field
-use Rattle.facts.specs.State.{Node, node_of}
+use Rattle.facts.specs.State.{Node}
 use Rattle.paths.specs.Lent.{facts_of, Becomes}
 use Rattle.paths.specs.Update.{update}
-use Rattle.paths.specs.Make.{Made}
 use Rattle.paths.proofs.Lending.{becomes_then, makes_then, stays}
 use Rattle.marks.proofs.MarkLaws.{drop_seen, dropped_made, made_marked}
 use Rattle.marks.proofs.name.mark_not_bool.Goals as goal
@@ -16,10 +14,10 @@ returns c =
     let r = c.ensure_child-r.result in
     let b = c.ensure_child-r.new.self in
     let dropped : Becomes b c.if-is_seen.facts (drop_seen (facts_of b) r) =
-        elim c.if-is_seen.branch [
-          then-is_seen w ↦ rw (w.facts-is, sym c.is_seen.ensures ∙ w.if-is_seen.true) w.drop_bool.ensures
-        | else-is_seen w ↦ rw (w.facts-is, sym c.is_seen.ensures ∙ w.if-is_seen.false) (stays _ _ refl)
-        ] in
+    elim c.if-is_seen.branch [
+      | then-is_seen w ↦ rw (w.facts-is, sym c.is_seen.ensures ∙ w.if-is_seen.true) w.drop_bool.ensures
+      | else-is_seen w ↦ rw (w.facts-is, sym c.is_seen.ensures ∙ w.if-is_seen.false) (stays _ _ refl)
+    ] in
     rw (← made_marked (facts_of a.facts.now) a.p a.k)
     (makes_then dropped_made _ _ _ _ _ _ c.ensure_child-r.ensures
     (becomes_then (λ (s : List Node). update s r field.not_bool 1) _ _ _ _ dropped c.store.ensures)

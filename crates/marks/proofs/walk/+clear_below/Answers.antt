@@ -1,4 +1,4 @@
-use Rattle.std.proofs.Common.{sym, ◌∙◌, refl, arith}
+use Rattle.std.proofs.Common.{◌∙◌, arith}
 use Rattle.facts.specs.State.{nodes}
 use Rattle.paths.specs.Lent.{facts_of}
 use Rattle.marks.specs.Below.{ClearsBelow}
@@ -29,7 +29,7 @@ returns-clause-clears_below t c =
     let I = c.loop-c.invariant in
     let D = c.drop_range.ensures in
     let cleared = clearing_done _ _ _ _ _ _ I.0 c.requires.0 c.args.facts.now.table.now (let p = c.requires.1 in let e = D.used in omega arith) c.loop-c-test.false
-        (rw (D.used, D.same.records) c.args.facts.now.shaped)
-        (record { shaped = c.drop_range.new.facts.shaped; state = rw D.used (rw D.used at D.state) }) in
+    (rw (D.used, D.same.records) c.args.facts.now.shaped)
+    (record { shaped = c.drop_range.new.facts.shaped; state = rw D.used (rw D.used at D.state) }) in
     let now : ClearsBelow (facts_of c.args.facts.now) c.args.p (nodes c.loop-c.facts.table.now c.args.facts.now.used) = rw D.used at cleared in
     below_so _ _ _ _ _ (I.1 ∙ D.used) now

@@ -14,5 +14,5 @@ returns-in-None c =
     let G = E.grows in
     let v = E.value in
     let M = ensured_new _ _ c.args.self.now.records _ _ _ (sym c.in-None.ensures.value)
-        (record { shaped = rw (v.1, G.same.records) at c.insert_at.new.self.shaped; state = rw v.1 at G.state }) in
+    (record { shaped = rw (v.1, G.same.records) at c.insert_at.new.self.shaped; state = rw v.1 at G.state }) in
     record { state = rw v.1 M.state; number = v.0 ∙ M.number; range = omega arith; same = G.same }
