@@ -92,17 +92,17 @@ loop-next-preserved t c =
     let n = c.loop-r.invariant.1.some in
     let on = c.next-next.ensures in
     elim c.if-is_seen.branch [
-      then-is_seen+else-depth-eq-DEPTH_MAX w ↦
-        let o = eqb-true _ _ (sym c.is_seen.ensures ∙ w.if-is_seen.true) in
-        elim w.if-child-eq0.branch [
-          then-child-eq0+in_ok-rest v ↦
-            paying_seen I n o
-            (leaf_left I n o c.args.facts.now.shaped c.requires.le_r.2 w.if-depth-eq-DEPTH_MAX.false (sym v.if-child-eq0.true ∙ w.child.ensures) v.last_word.ensures v.in_ok-rest.ensures)
-            (w.rest-is ∙ v.rest-is) (w.last_key-is ∙ w.key-last_key.ensures) on
-        | else-child-eq0+in_ok-rest-2 v ↦
-            paying_seen I n o (v.in_ok-rest-2.ensures.0, v.in_ok-rest-2.ensures.1) (w.rest-is ∙ v.rest-is) (w.last_key-is ∙ w.key-last_key.ensures) on
-        ]
-    | else-is_seen w ↦ paying_unseen I n (eqb-false _ _ (sym c.is_seen.ensures ∙ w.if-is_seen.false)) w.rest-is w.last_key-is on
+      | then-is_seen+else-depth-eq-DEPTH_MAX w ↦
+          let o = eqb-true _ _ (sym c.is_seen.ensures ∙ w.if-is_seen.true) in
+          elim w.if-child-eq0.branch [
+            | then-child-eq0+in_ok-rest v ↦
+                paying_seen I n o
+                (leaf_left I n o c.args.facts.now.shaped c.requires.le_r.2 w.if-depth-eq-DEPTH_MAX.false (sym v.if-child-eq0.true ∙ w.child.ensures) v.last_word.ensures v.in_ok-rest.ensures)
+                (w.rest-is ∙ v.rest-is) (w.last_key-is ∙ w.key-last_key.ensures) on
+            | else-child-eq0+in_ok-rest-2 v ↦
+                paying_seen I n o (v.in_ok-rest-2.ensures.0, v.in_ok-rest-2.ensures.1) (w.rest-is ∙ v.rest-is) (w.last_key-is ∙ w.key-last_key.ensures) on
+          ]
+      | else-is_seen w ↦ paying_unseen I n (eqb-false _ _ (sym c.is_seen.ensures ∙ w.if-is_seen.false)) w.rest-is w.last_key-is on
     ]
 
 pub loop-r-smaller : goal.loop-r-smaller
@@ -115,19 +115,19 @@ loop-r-preserved t c =
     let I = c.loop-r.invariant.0 in
     let n = c.loop-r.invariant.1.some in
     let on = sym c.if-next-follow.false ∙ c.next-next.ensures in (
-    elim c.if-is_seen.branch [
-          then-is_seen+else-depth-eq-DEPTH_MAX w ↦
+      elim c.if-is_seen.branch [
+        | then-is_seen+else-depth-eq-DEPTH_MAX w ↦
             let o = eqb-true _ _ (sym c.is_seen.ensures ∙ w.if-is_seen.true) in
             elim w.if-child-eq0.branch [
-              then-child-eq0+in_ok-rest v ↦
-                paying_seen I n o
-                (leaf_left I n o c.args.facts.now.shaped c.requires.le_r.2 w.if-depth-eq-DEPTH_MAX.false (sym v.if-child-eq0.true ∙ w.child.ensures) v.last_word.ensures v.in_ok-rest.ensures)
-                (w.rest-is ∙ v.rest-is) (w.last_key-is ∙ w.key-last_key.ensures) on
-            | else-child-eq0+in_ok-rest-2 v ↦
-                paying_seen I n o (v.in_ok-rest-2.ensures.0, v.in_ok-rest-2.ensures.1) (w.rest-is ∙ v.rest-is) (w.last_key-is ∙ w.key-last_key.ensures) on
+              | then-child-eq0+in_ok-rest v ↦
+                  paying_seen I n o
+                  (leaf_left I n o c.args.facts.now.shaped c.requires.le_r.2 w.if-depth-eq-DEPTH_MAX.false (sym v.if-child-eq0.true ∙ w.child.ensures) v.last_word.ensures v.in_ok-rest.ensures)
+                  (w.rest-is ∙ v.rest-is) (w.last_key-is ∙ w.key-last_key.ensures) on
+              | else-child-eq0+in_ok-rest-2 v ↦
+                  paying_seen I n o (v.in_ok-rest-2.ensures.0, v.in_ok-rest-2.ensures.1) (w.rest-is ∙ v.rest-is) (w.last_key-is ∙ w.key-last_key.ensures) on
             ]
         | else-is_seen w ↦ paying_unseen I n (eqb-false _ _ (sym c.is_seen.ensures ∙ w.if-is_seen.false)) w.rest-is w.last_key-is on
-        ],
+      ],
       run_next _ _ _ _ c.loop-r.invariant.1 (loop-r-smaller t c) refl,
     )
 

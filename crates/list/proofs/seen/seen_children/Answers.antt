@@ -36,7 +36,7 @@ overflow_add-count c =
     let I = c.loop-last_key.invariant in
     let h = c.args.facts.now in
     let fits = looking_fits _ _ _ _ _ _ _ I.0 I.1.some (eqb-true _ _ (sym c.is_seen.ensures ∙ c.if-is_seen.true))
-        (let a = h.shaped.most in let b = h.most in omega arith) in
+    (let a = h.shaped.most in let b = h.most in omega arith) in
     omega arith
 
 pub loop-next-smaller : goal.loop-next-smaller
@@ -49,10 +49,10 @@ pub loop-next-preserved : goal.loop-next-preserved
 loop-next-preserved c =
     let I = c.loop-last_key.invariant in
     elim c.if-is_seen.branch [
-      then-is_seen w ↦ looking_seen _ _ _ _ _ _ _ I.0 I.1.some _ _ _ _ (eqb-true _ _ (sym c.is_seen.ensures ∙ w.if-is_seen.true)) w.count-is
-        (w.last_key-is ∙ w.key-last_key.ensures) (w.last_kind-is ∙ w.kind-last_kind.ensures) c.next-next.ensures
-    | else-is_seen w ↦ looking_unseen _ _ _ _ _ _ _ I.0 I.1.some _ _ _ _ (eqb-false _ _ (sym c.is_seen.ensures ∙ w.if-is_seen.false)) w.count-is
-        w.last_key-is w.last_kind-is c.next-next.ensures
+      | then-is_seen w ↦ looking_seen _ _ _ _ _ _ _ I.0 I.1.some _ _ _ _ (eqb-true _ _ (sym c.is_seen.ensures ∙ w.if-is_seen.true)) w.count-is
+          (w.last_key-is ∙ w.key-last_key.ensures) (w.last_kind-is ∙ w.kind-last_kind.ensures) c.next-next.ensures
+      | else-is_seen w ↦ looking_unseen _ _ _ _ _ _ _ I.0 I.1.some _ _ _ _ (eqb-false _ _ (sym c.is_seen.ensures ∙ w.if-is_seen.false)) w.count-is
+          w.last_key-is w.last_kind-is c.next-next.ensures
     ]
 
 pub loop-last_key-smaller : goal.loop-last_key-smaller
@@ -66,10 +66,10 @@ loop-last_key-preserved c =
     let I = c.loop-last_key.invariant in
     let on = sym c.if-next-follow.false ∙ c.next-next.ensures in (
       elim c.if-is_seen.branch [
-        then-is_seen w ↦ looking_seen _ _ _ _ _ _ _ I.0 I.1.some _ _ _ _ (eqb-true _ _ (sym c.is_seen.ensures ∙ w.if-is_seen.true)) w.count-is
-          (w.last_key-is ∙ w.key-last_key.ensures) (w.last_kind-is ∙ w.kind-last_kind.ensures) on
-      | else-is_seen w ↦ looking_unseen _ _ _ _ _ _ _ I.0 I.1.some _ _ _ _ (eqb-false _ _ (sym c.is_seen.ensures ∙ w.if-is_seen.false)) w.count-is
-          w.last_key-is w.last_kind-is on
+        | then-is_seen w ↦ looking_seen _ _ _ _ _ _ _ I.0 I.1.some _ _ _ _ (eqb-true _ _ (sym c.is_seen.ensures ∙ w.if-is_seen.true)) w.count-is
+            (w.last_key-is ∙ w.key-last_key.ensures) (w.last_kind-is ∙ w.kind-last_kind.ensures) on
+        | else-is_seen w ↦ looking_unseen _ _ _ _ _ _ _ I.0 I.1.some _ _ _ _ (eqb-false _ _ (sym c.is_seen.ensures ∙ w.if-is_seen.false)) w.count-is
+            w.last_key-is w.last_kind-is on
       ],
       run_next _ _ _ _ I.1 (loop-last_key-smaller c) refl,
     )
