@@ -1,6 +1,6 @@
 -- What question 2's test of the chains adds up: records and the links that lead to them, each link as much as its
 -- record. `weighed_chained` shows that the links lead to every record but the root just where both sides are equal.
-use Rattle.std.specs.Prelude.{ℕ, ◌+◌, ◌*◌, ◌^◌, ◌≤◌, ◌<◌, ◌≡◌, true, cond, List, eqb, Some, None}
+use Rattle.std.specs.Prelude.{ℕ, ◌+◌, ◌^◌, ◌≤◌, ◌<◌, ◌≡◌, true, cond, List, eqb, Some, None}
 use Rattle.std.specs.declared.option.Option.{Option}
 use Rattle.facts.specs.Table.{key_of, parent_of, child_of, next_of, seen_of}
 use Rattle.facts.specs.State.{node_at}

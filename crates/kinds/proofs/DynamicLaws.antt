@@ -8,11 +8,11 @@ use native.Mathlib.Omega.{arith}
 use lib.Dec.{eqb}
 use lib.ListN.{length}
 use borrow.Author.Tests.{eq-eqb, ne_eqb}
-use Rattle.facts.specs.Table.{child_of, next_of, seen_of, kind_of}
+use Rattle.facts.specs.Table.{child_of, next_of}
 use Rattle.facts.specs.Links.{In}
-use Rattle.facts.specs.State.{Node, nodes, node_of, kids_in}
+use Rattle.facts.specs.State.{nodes, node_of, kids_in}
 use Rattle.facts.specs.Linked.{kids_of}
-use Rattle.facts.proofs.Encode.{length_nodes, nodes_get, kids_nodes}
+use Rattle.facts.proofs.Encode.{length_nodes, kids_nodes}
 use Rattle.facts.proofs.Kids.{kids_in_lem}
 use Rattle.paths.specs.Shape.{Shaped}
 use Rattle.paths.proofs.Tail.{Tail, More, tail_more, tail_none, tail_start}

@@ -1,5 +1,5 @@
 -- Counting the arrays of a path, one record a turn.
-use Prim.Native.Nat.{ℕ, zero, suc, ◌+◌, ◌≤◌, ◌<◌, ◌^◌}
+use Prim.Native.Nat.{ℕ, zero, suc, ◌+◌, ◌≤◌, ◌<◌}
 use mathlib.Core.Path.{◌≡◌, refl, sym, ap, ◌∙◌}
 use mathlib.Core.Bool.{cond}
 use mathlib.Core.Logic.{⊎_elim}
@@ -8,9 +8,8 @@ use native.Mathlib.Omega.{arith}
 use native.Mathlib.Nat.{eq-or-lt_of_le}
 use lib.Dec.{eqb}
 use borrow.Author.Tests.{eq-eqb, ne_eqb}
-use Rattle.limits.specs.Limits.{record_width, kind_array}
-use Rattle.facts.specs.Table.{parent_of, kind_of}
-use Rattle.facts.specs.Access.{Has}
+use Rattle.limits.specs.Limits.{kind_array}
+use Rattle.facts.specs.Table.{parent_of}
 use Rattle.facts.specs.State.{Node, nodes, node_of}
 use Rattle.facts.proofs.Encode.{nodes_get}
 use Rattle.paths.specs.Shape.{Shaped}

@@ -1,5 +1,5 @@
 -- Not-bool marks: what the code's tests and calls come to, over plain numbers, tables and states.
-use Prim.Native.Nat.{ℕ, ◌+◌, ◌≤◌}
+use Prim.Native.Nat.{ℕ, ◌+◌}
 use mathlib.Core.Path.{◌≡◌, refl, sym, ap, ◌∙◌}
 use mathlib.Core.Bool.{Bool, true, false, cond, ◌||◌}
 use mathlib.Core.List.{List, [], ◌∷◌, ◌++◌}
@@ -9,17 +9,12 @@ use lib.ListN.{length}
 use borrow.Author.Tests.{eq-eqb, ne_eqb}
 use Rattle.limits.specs.Codes as code
 use Rattle.limits.specs.Fields as field
-use Rattle.limits.specs.Confidences.{by_range}
-use Rattle.facts.specs.Table.{seen_of, name_of, confidence_of}
-use Rattle.facts.specs.State.{Node, nodes, node_of, bare}
-use Rattle.paths.specs.Shape.{Shaped}
+use Rattle.facts.specs.State.{Node, node_of, bare}
 use Rattle.paths.specs.Update.{update}
 use Rattle.paths.specs.Find.{find_in, get_mut}
 use Rattle.paths.specs.Make.{Made, ensure}
-use Rattle.paths.specs.Represents.{Represents, Makes}
 use Rattle.paths.proofs.Reach.{last_node}
 use Rattle.paths.proofs.Lookups.{find_update, ensure_there, ensure_new, got_none}
-use Rattle.marks.specs.Grows.{Grows}
 use Rattle.marks.specs.Names.{is_range, drop_name, mark_made, insert_not_bool, drop_bool_at, drop_bool, mark_not_bool}
 use Rattle.marks.proofs.NameLaws.{case_yes, case_no}
 

@@ -1,24 +1,13 @@
 -- Names: what the code's tests and calls come to, over plain numbers, tables and states.
-use Prim.Native.Nat.{ℕ, ◌≤◌, ◌<◌}
+use Prim.Native.Nat.{ℕ}
 use mathlib.Core.Path.{◌≡◌, refl, sym, ap, ◌∙◌}
 use mathlib.Core.Bool.{Bool, true, false, cond, not, ◌&&◌, ◌||◌, and-false}
 use mathlib.Core.List.{List}
-use native.Mathlib.Omega.{arith}
 use lib.Dec.{eqb, leb}
-use borrow.Author.Tests.{eq-eqb, ne_eqb, le-leb, lt-leb}
 use Rattle.limits.specs.Codes as code
-use Rattle.limits.specs.Fields as field
 use Rattle.limits.specs.Confidences.{by_range}
-use Rattle.facts.specs.Table.{seen_of, not_bool_of, blocked_of, name_of, confidence_of}
-use Rattle.facts.specs.State.{Node, node_at, nodes, node_of}
-use Rattle.facts.proofs.Encode.{nodes_get}
-use Rattle.paths.specs.Shape.{Shaped}
-use Rattle.paths.specs.Update.{update}
-use Rattle.paths.specs.Find.{find_in}
-use Rattle.paths.specs.Make.{get_or_create}
-use Rattle.paths.specs.Represents.{Represents, Makes}
-use Rattle.marks.specs.Grows.{Grows}
-use Rattle.marks.specs.Names.{give_name, is_not_bool, name_at, name_made, set_tname}
+use Rattle.facts.specs.State.{Node, node_of}
+use Rattle.marks.specs.Names.{is_not_bool}
 
 -- a case of a definition
 pub case_yes : {A : Type 0} (b : Bool) (x y : A) → b ≡ true → x ≡ cond b x y

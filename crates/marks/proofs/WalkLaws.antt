@@ -1,5 +1,5 @@
 -- The walk that clears a record and all below it, one child a turn.
-use Prim.Native.Nat.{ℕ, ◌+◌, ◌≤◌, ◌<◌, ◌^◌}
+use Prim.Native.Nat.{ℕ, ◌+◌, ◌≤◌, ◌<◌}
 use mathlib.Core.Path.{◌≡◌, sym, ap, ◌∙◌}
 use mathlib.Core.Bool.{true, ◌||◌}
 use mathlib.Core.Logic.{⊎_elim}
@@ -8,11 +8,11 @@ use native.Mathlib.Omega.{arith}
 use native.Mathlib.Nat.{eq-or-lt_of_le}
 use lib.Dec.{leb}
 use lib.ListN.{length}
-use borrow.Author.Tests.{eq-eqb, ne_eqb}
+use borrow.Author.Tests.{ne_eqb}
 use Rattle.limits.specs.Confidences.{by_range}
 use Rattle.limits.specs.Codes as code
 use Rattle.limits.specs.Fields as field
-use Rattle.facts.specs.Table.{key_of, parent_of, child_of, next_of, confidence_of}
+use Rattle.facts.specs.Table.{key_of, parent_of, child_of, next_of}
 use Rattle.facts.specs.Links.{Kid}
 use Rattle.facts.specs.Linked.{First}
 use Rattle.facts.specs.State.{Node, nodes, node_of}
@@ -27,7 +27,7 @@ use Rattle.paths.specs.Represents.{Represents}
 use Rattle.paths.proofs.Reach.{shaped_ordered}
 use Rattle.paths.proofs.Walk.{left}
 use Rattle.paths.proofs.Tail.{next_less}
-use Rattle.marks.specs.Names.{is_range, drop_name}
+use Rattle.marks.specs.Names.{is_range}
 use Rattle.marks.specs.Hints.{without_range, clear_range_hints}
 use Rattle.marks.specs.Dropping.{drop_range}
 use Rattle.marks.specs.Below.{ClearsBelow}

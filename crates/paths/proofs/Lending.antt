@@ -1,5 +1,5 @@
 -- What calls do to the facts of a lent table, one after another.
-use Rattle.std.proofs.Common.{◌≡◌, ℕ, List, sym, refl, ap, ◌∙◌, arith}
+use Rattle.std.proofs.Common.{◌≡◌, ℕ, List, refl, ap, ◌∙◌, arith}
 use Rattle.facts.specs.State.{Node}
 use Rattle.paths.specs.declared.lent.Facts.{Facts}
 use Rattle.paths.specs.Lent.{facts_of, IsSameTable, Becomes, Grows, Makes}

@@ -1,7 +1,7 @@
 -- A walk over the children of p: what is left of the list of them, and what is read on the way.
-use Rattle.std.proofs.Common.{◌≡◌, ℕ, ◌+◌, ◌-◌, ◌*◌, ◌^◌, ◌<◌, ◌≤◌, List, [], ◌∷◌, get_or, sym, refl, ap, ◌∙◌, inl, inr, arith, w32, Fits}
+use Rattle.std.proofs.Common.{◌≡◌, ℕ, ◌<◌, ◌≤◌, List, [], ◌∷◌, sym, refl, ap, ◌∙◌, inl, inr, arith}
 use Rattle.limits.specs.Limits.{record_width}
-use Rattle.facts.specs.Table.{fld, key_of, child_of, next_of}
+use Rattle.facts.specs.Table.{key_of, child_of, next_of}
 use Rattle.facts.specs.Access.{Has}
 use Rattle.facts.specs.Links.{Kid, In, Seg}
 use Rattle.facts.specs.Linked.{Linked}

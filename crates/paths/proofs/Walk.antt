@@ -1,5 +1,5 @@
 -- A walk of the chain of p.
-use Rattle.std.proofs.Common.{◌≡◌, ℕ, zero, suc, ◌+◌, ◌-◌, ◌^◌, ◌<◌, ◌≤◌, List, refl, arith}
+use Rattle.std.proofs.Common.{◌≡◌, ℕ, zero, suc, ◌+◌, ◌-◌, ◌<◌, ◌≤◌, List, refl, arith}
 use Rattle.limits.specs.Limits.{record_width}
 use Rattle.facts.specs.Table.{key_of, child_of, next_of}
 use Rattle.facts.specs.Access.{Has}

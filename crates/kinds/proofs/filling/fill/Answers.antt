@@ -1,4 +1,4 @@
-use Rattle.std.proofs.Common.{refl, arith, ◌*◌, ◌+◌}
+use Rattle.std.proofs.Common.{arith, ◌*◌}
 use Rattle.limits.specs.Limits.{word_bytes}
 use Rattle.paths.specs.Lent.{facts_of}
 use Rattle.paths.proofs.Spotting.{before_none}

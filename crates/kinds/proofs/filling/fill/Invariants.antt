@@ -1,4 +1,4 @@
-use Rattle.std.proofs.Common.{◌≡◌, ◌*◌}
+use Rattle.std.proofs.Common.{◌*◌}
 use Rattle.limits.specs.Limits.{word_bytes}
 use Rattle.paths.specs.Lent.{facts_of, IsSameTable}
 use Rattle.paths.specs.Place.{Before}

@@ -1,4 +1,4 @@
-use Rattle.std.proofs.Common.{◌≡◌, sym, ◌∙◌, arith, Bool, true, false, cond, refl, max, List}
+use Rattle.std.proofs.Common.{◌≡◌, sym, ◌∙◌, Bool, true, false, cond, refl, max, List}
 use borrow.Author.Tests.{eq-eqb, ne_eqb}
 use mir.Val.{bool_byte}
 use Rattle.limits.specs.Confidences.{by_range}

@@ -1,10 +1,8 @@
 use Rattle.std.proofs.Common.{sym, ◌∙◌, refl, List}
-use borrow.Author.Tests.{eq-eqb, ne_eqb}
 use Rattle.limits.specs.Fields as field
-use Rattle.facts.specs.State.{Node, node_of}
+use Rattle.facts.specs.State.{Node}
 use Rattle.paths.specs.Lent.{facts_of, Becomes}
 use Rattle.paths.specs.Update.{update}
-use Rattle.paths.specs.Make.{Made}
 use Rattle.paths.proofs.Lending.{becomes_then, makes_then, stays}
 use Rattle.marks.proofs.MarkLaws.{drop_seen, dropped_made, made_marked}
 use Rattle.marks.proofs.name.mark_not_bool.Goals as goal

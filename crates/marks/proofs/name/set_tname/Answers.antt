@@ -1,4 +1,4 @@
-use Rattle.std.proofs.Common.{◌≡◌, sym, ◌∙◌, rules, false, List}
+use Rattle.std.proofs.Common.{◌≡◌, rules, false, List}
 use Rattle.facts.specs.State.{Node}
 use Rattle.paths.specs.Lent.{facts_of}
 use Rattle.paths.specs.Make.{Made}

@@ -1,4 +1,4 @@
-use Rattle.std.proofs.Common.{sym, ◌∙◌, refl, arith}
+use Rattle.std.proofs.Common.{◌∙◌, arith}
 use Rattle.facts.specs.State.{nodes}
 use Rattle.paths.specs.Lent.{facts_of}
 use Rattle.marks.specs.Below.{ClearsBelow}

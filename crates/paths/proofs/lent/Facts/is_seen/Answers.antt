@@ -1,4 +1,4 @@
-use Rattle.std.proofs.Common.{◌∙◌, ap, ◌==◌}
+use Rattle.std.proofs.Common.{ap, ◌==◌}
 use Rattle.facts.specs.State.{Node}
 use Rattle.paths.proofs.Frame.{read}
 use Rattle.paths.proofs.lent.Facts.is_seen.Goals as goal

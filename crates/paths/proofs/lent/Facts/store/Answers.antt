@@ -1,4 +1,4 @@
-use Rattle.std.proofs.Common.{refl, rules}
+use Rattle.std.proofs.Common.{refl}
 use Rattle.paths.proofs.Frame.{stored}
 use Rattle.paths.proofs.lent.Facts.store.Goals as goal
 
