@@ -40,13 +40,10 @@ pub fn is_label(s: &[u32], at: usize, used: u32) -> bool
 pub fn are_slots(s: &[u32], used: u32) -> bool
     ensures { result ≡ are_slots used s.now }
 {
-    let n = s.len() / SLOT_WIDTH;
-    let mut i = 0;
-    while i < n {
+    for i in 0..s.len() / SLOT_WIDTH {
         if !is_label(s, i * SLOT_WIDTH + SLOT_LABEL, used) {
             return false;
         }
-        i += 1;
     }
     true
 }
@@ -63,13 +60,10 @@ fn is_entry(s: &[u32], at: usize, used: u32) -> bool
 pub fn are_entries(s: &[u32], used: u32) -> bool
     ensures { result ≡ are_entries used s.now }
 {
-    let n = s.len() / ENTRY_WIDTH;
-    let mut i = 0;
-    while i < n {
+    for i in 0..s.len() / ENTRY_WIDTH {
         if !is_entry(s, i * ENTRY_WIDTH, used) {
             return false;
         }
-        i += 1;
     }
     true
 }

@@ -52,11 +52,8 @@ pub fn put_pick_one(memory: &mut [u32], pick: u32)
 pub fn stack_ones(stack: &mut [u32], path: u32)
     ensures { stack.new ≡ stack_ones path stack.old }
 {
-    let n = stack.len() / SLOT_WIDTH;
-    let mut i = 0;
-    while i < n {
+    for i in 0..stack.len() / SLOT_WIDTH {
         slot_one(stack, path, i);
-        i += 1;
     }
 }
 
@@ -64,11 +61,8 @@ pub fn stack_ones(stack: &mut [u32], path: u32)
 pub fn memory_ones(memory: &mut [u32], path: u32)
     ensures { memory.new ≡ memory_ones path memory.old }
 {
-    let n = memory.len() / ENTRY_WIDTH;
-    let mut i = 0;
-    while i < n {
+    for i in 0..memory.len() / ENTRY_WIDTH {
         entry_one(memory, path, i);
-        i += 1;
     }
 }
 
