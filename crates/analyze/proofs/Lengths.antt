@@ -1,4 +1,5 @@
 -- The plans of MUL, SHL, LT and GT are proper.
+use Rattle.std.specs.Prelude.{Option, Some, None}
 use Rattle.std.proofs.Common.{Option, Some, None}
 use Prim.Native.Nat.{ℕ, ◌+◌, ◌*◌, ◌≤◌, ◌<◌}
 use mathlib.Core.Path.{◌≡◌, refl}
@@ -26,7 +27,6 @@ use Rattle.labels.specs.declared.Val.{Val}
 use Rattle.labels.specs.declared.Label.{Label}
 use Rattle.labels.specs.declared.Step.{Step}
 use Rattle.labels.specs.declared.Choice.{Choice}
-use Rattle.labels.specs.declared.Choice.TheVariants.{Chosen, Neither}
 use Rattle.labels.specs.declared.Pattern.TheVariants as pattern
 use Rattle.labels.specs.Operands.{is_length, is_unmasked_length, choose}
 use Rattle.operations.specs.declared.Operation.{Operation}
@@ -93,24 +93,24 @@ module _ (s : List Node) (O : Ordered s) (Fits Slot : Type 0) (pick : ℕ) where
         proper_multiplied factor (multiplier_of factor) (multiplier_is factor (multiplier_of factor) refl) (omega arith))
 
   -- the general arm of LT, GT and MUL
-  proper_mark_first : (k : Choice) → ChoiceReaches (length s) k → P (mark_first s k)
+  proper_mark_first : (k : Option Choice) → ChoiceReaches (length s) k → P (mark_first s k)
   unfolding unless_range
-  proper_mark_first Neither K = proper_none
-  proper_mark_first (Chosen v own other) K =
-      cond_has P (has_range_hint s v.path v.offset) _ _ proper_none (proper_mark v K.0)
+  proper_mark_first None K = proper_none
+  proper_mark_first (Some k) K =
+      cond_has P (has_range_hint s k.val.path k.val.offset) _ _ proper_none (proper_mark k.val K.0)
 
-  proper_mul_by : (k general : Choice) → ChoiceReaches (length s) k → ChoiceReaches (length s) general → Slot
+  proper_mul_by : (k general : Option Choice) → ChoiceReaches (length s) k → ChoiceReaches (length s) general → Slot
       → P (mul_by s k general)
-  proper_mul_by Neither general K G slot = proper_mark_first general G
-  proper_mul_by (Chosen v own other) general K G slot =
-      proper_multiply v.path other.label K.0 K.1 slot (value_of other.word)
+  proper_mul_by None general K G slot = proper_mark_first general G
+  proper_mul_by (Some k) general K G slot =
+      proper_multiply k.val.path k.other.label K.0 K.1 slot (value_of k.other.word)
 
   proper_bytes_named : (v : Val) (o : Option ℕ) → IsUsed (length s) v.path → BytesFit o → P (bytes_named v o)
   proper_bytes_named v None U h = proper_mark v U
   proper_bytes_named v (Some n) U h =
       proper_mark_name v (code.fixed_bytes + n) by_the_rest U (omega arith) (omega arith) (bytes_name n h.0 h.1)
 
-  proper_compare_with : (l : Label) (bound : ℕ) (general : Choice) → LabelReaches (length s) l
+  proper_compare_with : (l : Label) (bound : ℕ) (general : Option Choice) → LabelReaches (length s) l
       → ChoiceReaches (length s) general → Slot → P (compare_with s l bound general)
   unfolding compare_with
   proper_compare_with l bound general L G slot =

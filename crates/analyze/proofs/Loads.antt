@@ -5,6 +5,7 @@ use mathlib.Core.Bool.{true}
 use mathlib.Core.List.{List}
 use native.Mathlib.Omega.{arith}
 use lib.Dec.{eqb}
+use Rattle.std.specs.Prelude.{Option, None, Some}
 use Rattle.limits.specs.Codes as code
 use Rattle.limits.specs.Confidences.{by_bytes}
 use Rattle.limits.specs.Limits.{word_bytes, selector_bytes, dynamic_count_max}
@@ -16,7 +17,6 @@ use Rattle.labels.specs.declared.Label.{Label}
 use Rattle.labels.specs.declared.Label.TheVariants.{Unlabelled, CallData, Arg, IsZeroResult}
 use Rattle.labels.specs.declared.Step.{Step}
 use Rattle.labels.specs.declared.Choice.{Choice}
-use Rattle.labels.specs.declared.Choice.TheVariants.{Chosen, Neither}
 use Rattle.labels.specs.declared.Pattern.TheVariants as pattern
 use Rattle.labels.specs.Operands.{on_arg, choose}
 use Rattle.operations.specs.declared.Operation.{Operation}
@@ -93,9 +93,9 @@ module _ (u : ℕ) (some : 1 ≤ u) (Fits Slot : Type 0) (x : Step) where
         go (IsZeroResult v) L h = plain
 
   -- ADD
-  proper_add_one : (k : Choice) → ChoiceReaches u k → Slot → P (add_one k)
-  proper_add_one Neither K slot = proper_none
-  proper_add_one (Chosen v own other) K slot = proper_stack (one_operation (mark v)) _ slot (proper_mark v K.0)
+  proper_add_one : (k : Option Choice) → ChoiceReaches u k → Slot → P (add_one k)
+  proper_add_one None K slot = proper_none
+  proper_add_one (Some k) K slot = proper_stack (one_operation (mark k.val)) _ slot (proper_mark k.val K.0)
 
   proper_add_both : (s : List Node) (f g : Val) → IsUsed u f.path → IsUsed u g.path → Slot → P (add_both s f g)
   unfolding add_both

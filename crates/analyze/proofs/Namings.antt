@@ -6,20 +6,19 @@ use mathlib.Core.List.{List}
 use native.Mathlib.Omega.{arith}
 use lib.Dec.{ltb}
 use borrow.Author.Tests.{ltb-true}
+use Rattle.std.specs.Prelude.{Option, Some, None}
 use Rattle.limits.specs.Codes as code
 use Rattle.limits.specs.Confidences.{by_byte, by_and_or_is_zero, by_sdiv_or_smod, by_mstore8, by_the_rest}
 use Rattle.limits.specs.Limits.{word_bytes}
 use Rattle.word.specs.Value.{value_of}
 use Rattle.mask.specs.Mask.{and_mask_to_type}
 use Rattle.code.specs.Guard.{guard_failure_pc, is_division_check}
+use Rattle.word.specs.declared.U256.{U256}
 use Rattle.labels.specs.declared.Val.{Val}
-use Rattle.labels.specs.declared.Mask.{Mask}
-use Rattle.labels.specs.declared.Mask.TheVariants.{Unmasked, Masked}
 use Rattle.labels.specs.declared.Label.{Label}
 use Rattle.labels.specs.declared.Label.TheVariants.{Unlabelled, CallData, Arg, IsZeroResult}
 use Rattle.labels.specs.declared.Step.{Step}
 use Rattle.labels.specs.declared.Choice.{Choice}
-use Rattle.labels.specs.declared.Choice.TheVariants.{Chosen, Neither}
 use Rattle.labels.specs.declared.Pattern.TheVariants as pattern
 use Rattle.labels.specs.Operands.{choose, is_unmasked, same_arg}
 use Rattle.operations.specs.Asks.{IsUsed}
@@ -46,10 +45,10 @@ module _ (u : ℕ) (Fits Slot : Type 0) (pick : ℕ) where
       unless_none name nothing (one_operation (name_as v name by_the_rest)) given proper_none
       (proper_name v name by_the_rest R (omega arith) (omega arith))
 
-  proper_eq_masked : (v w : Val) (mask : Mask) → IsUsed u v.path → P (eq_masked v w mask)
+  proper_eq_masked : (v w : Val) (mask : Option U256) → IsUsed u v.path → P (eq_masked v w mask)
   unfolding eq_masked
-  proper_eq_masked v w Unmasked R = proper_none
-  proper_eq_masked v w (Masked m) R =
+  proper_eq_masked v w None R = proper_none
+  proper_eq_masked v w (Some m) R =
       cond_has P (same_arg v w) _ _ (proper_name_if v (and_mask_to_type (value_of m)) R (mask_name (value_of m))) proper_none
 
   proper_eq_both : (v w : Val) → IsUsed u v.path → IsUsed u w.path → P (eq_both v w)
@@ -58,20 +57,22 @@ module _ (u : ℕ) (Fits Slot : Type 0) (pick : ℕ) where
       cond_has P (is_unmasked v.and_mask) _ _ (proper_eq_masked v w w.and_mask U)
       (cond_has P (is_unmasked w.and_mask) _ _ (proper_eq_masked w v v.and_mask W) proper_none)
 
-  proper_and_first : (k : Choice) → ChoiceReaches u k → Slot → P (and_first k)
-  proper_and_first Neither K slot = proper_none
-  proper_and_first (Chosen v own other) K slot =
-      let name = and_mask_to_type (value_of other.word) in
-      unless_none name (one_operation (mark v)) (with_stack (mark_and_name v name by_and_or_is_zero) (stack.Label (with_mask v other.word)))
-      (mask_name (value_of other.word)) (proper_mark v K.0)
+  proper_and_first : (k : Option Choice) → ChoiceReaches u k → Slot → P (and_first k)
+  proper_and_first None K slot = proper_none
+  proper_and_first (Some k) K slot =
+      let v = k.val in
+      let mask = k.other.word in
+      let name = and_mask_to_type (value_of mask) in
+      unless_none name (one_operation (mark v)) (with_stack (mark_and_name v name by_and_or_is_zero) (stack.Label (with_mask v mask)))
+      (mask_name (value_of mask)) (proper_mark v K.0)
       (λ h.
       proper_stack (mark_and_name v name by_and_or_is_zero) _ slot
       (proper_mark_name v name by_and_or_is_zero K.0 (omega arith) (omega arith) h))
 
-  proper_signed_first : (k : Choice) → ChoiceReaches u k → P (signed_first k)
-  proper_signed_first Neither K = proper_none
-  proper_signed_first (Chosen v own other) K =
-      proper_mark_name v (code.int + 256) by_sdiv_or_smod K.0 (omega arith) (omega arith)
+  proper_signed_first : (k : Option Choice) → ChoiceReaches u k → P (signed_first k)
+  proper_signed_first None K = proper_none
+  proper_signed_first (Some k) K =
+      proper_mark_name k.val (code.int + 256) by_sdiv_or_smod K.0 (omega arith) (omega arith)
       (int_name 256 (omega arith) (omega arith) refl)
 
   proper_zero_tested : (bytes : List ℕ) (pc : ℕ) (l : Label) → LabelReaches u l → Slot → P (zero_tested bytes pc l)

@@ -1,9 +1,10 @@
 -- The phases before the arms: the hints' operations are allowed, and the range rule's plan is proper.
-use Prim.Native.Nat.{ℕ, ◌+◌, ◌≤◌}
+use Prim.Native.Nat.{ℕ, ◌+◌}
 use mathlib.Core.Path.{refl}
 use mathlib.Core.Bool.{Bool, not, ◌&&◌, ◌||◌}
 use native.Mathlib.Omega.{arith}
 use lib.Dec.{eqb}
+use Rattle.std.specs.Prelude.{Option, None, Some}
 use Rattle.limits.specs.Codes as code
 use Rattle.limits.specs.Confidences.{by_range}
 use Rattle.opcode.specs.Opcode.{EQ, REVERT}
@@ -11,7 +12,7 @@ use Rattle.opcode.specs.Lists.{listed, operand_clearers}
 use Rattle.labels.specs.declared.Label.{Label}
 use Rattle.labels.specs.declared.Label.TheVariants.{Unlabelled, CallData, Arg, IsZeroResult}
 use Rattle.labels.specs.declared.Step.{Step}
-use Rattle.labels.specs.Operands.{is_arg, is_unlabelled}
+use Rattle.labels.specs.Operands.{is_unlabelled}
 use Rattle.operations.specs.declared.Operation.{Operation}
 use Rattle.operations.specs.declared.Operation.TheVariants.{Nothing, ClearRangeHint, ClearRangeHints}
 use Rattle.operations.specs.declared.Operation.TheVariants.{MarkNotBool, InsertNotBool, GetOrCreate}
@@ -19,7 +20,6 @@ use Rattle.operations.specs.declared.Operation.TheVariants.{SetTname, SetDynamic
 use Rattle.operations.specs.Asks.{IsUsed, Reaches, Stores}
 use Rattle.operations.proofs.Clears.{Clears}
 use Rattle.analyze.specs.declared.Comparison.{Comparison}
-use Rattle.analyze.specs.declared.Comparison.TheVariants as comparison
 use Rattle.analyze.specs.declared.Hints.{Hints}
 use Rattle.analyze.specs.Phases.{clear, compares_words, clear_operands, hints_of, comparison_of, on_comparison}
 use Rattle.analyze.specs.Phases.{name_range, range_plan}
@@ -78,24 +78,24 @@ module _ (u : ℕ) where
       (record { first = tt; second = tt }))
 
   -- what a comparison compares is an argument of an operand
-  abbrev ComparisonReaches : Comparison → Type 0
-  ComparisonReaches comparison.Nothing = Unit {0}
-  ComparisonReaches (comparison.Of v bound less) = IsUsed u v.path
+  abbrev ComparisonReaches : Option Comparison → Type 0
+  ComparisonReaches None = Unit {0}
+  ComparisonReaches (Some c) = IsUsed u c.val.path
 
   compared_reaches : (x : Step) → StepReaches u x → ComparisonReaches (comparison_of x)
   unfolding comparison_of
   compared_reaches x R =
       cond_has ComparisonReaches (is_unlabelled x.second.label) _ _
-      (arg_has ComparisonReaches u x.first.label _ comparison.Nothing R.first (λ v U. U) tt)
+      (arg_has ComparisonReaches u x.first.label _ None R.first (λ v U. U) tt)
       (cond_has ComparisonReaches (is_unlabelled x.first.label) _ _
-      (arg_has ComparisonReaches u x.second.label _ comparison.Nothing R.second (λ v U. U) tt) tt)
+      (arg_has ComparisonReaches u x.second.label _ None R.second (λ v U. U) tt) tt)
 
   module _ (Fits Slot : Type 0) (pick : ℕ) where
-    proper_ranged : (k : Comparison) → ComparisonReaches k → Proper u Fits Slot pick (on_comparison k name_range nothing)
-    proper_ranged comparison.Nothing K = proper_none
-    proper_ranged (comparison.Of v bound less) K =
+    proper_ranged : (k : Option Comparison) → ComparisonReaches k → Proper u Fits Slot pick (on_comparison k name_range nothing)
+    proper_ranged None K = proper_none
+    proper_ranged (Some c) K =
         proper_three _ _ Nothing
-        (may_name v (code.uint + 8) by_range K (uint_name 8 (omega arith) (omega arith) refl) (omega arith)
+        (may_name c.val (code.uint + 8) by_range K (uint_name 8 (omega arith) (omega arith) refl) (omega arith)
         (omega arith))
         (record { reaches = K; stores = λ f. tt }) may_none
 

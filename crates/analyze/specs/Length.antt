@@ -17,7 +17,6 @@ use Rattle.labels.specs.declared.Val.{Val}
 use Rattle.labels.specs.declared.Label.{Label}
 use Rattle.labels.specs.declared.Step.{Step}
 use Rattle.labels.specs.declared.Choice.{Choice}
-use Rattle.labels.specs.declared.Choice.TheVariants.{Chosen, Neither}
 use Rattle.labels.specs.declared.Pattern.TheVariants as pattern
 use Rattle.labels.specs.Operands.{on_arg, choose, is_length, is_unmasked_length}
 use Rattle.operations.specs.declared.Operation.{Operation}
@@ -56,14 +55,14 @@ multiply s path other factor =
 unfoldable pub unless_range : List Node → Val → Plan
 unless_range s v = cond (has_range_hint s v.path v.offset) nothing (one_operation (mark v))
 
-abbrev pub mark_first : List Node → Choice → Plan
-mark_first s Neither = nothing
-mark_first s (Chosen v own other) = unless_range s v
+abbrev pub mark_first : List Node → Option Choice → Plan
+mark_first s None = nothing
+mark_first s (Some k) = unless_range s k.val
 
 -- MUL: of a length, or the general arm
-abbrev pub mul_by : List Node → Choice → Choice → Plan
-mul_by s (Chosen v own other) general = multiply s v.path other.label (value_of other.word)
-mul_by s Neither general = mark_first s general
+abbrev pub mul_by : List Node → Option Choice → Option Choice → Plan
+mul_by s (Some k) general = multiply s k.val.path k.other.label (value_of k.other.word)
+mul_by s None general = mark_first s general
 
 unfoldable pub mul : List Node → Step → Plan
 mul s x = mul_by s (choose pattern.Length x.first x.second) (choose pattern.Any x.first x.second)
@@ -104,7 +103,7 @@ length_compared path bound =
 
 -- the length arm of LT (second operand) and GT (first operand) comes before the general arm (decision D11); for that
 -- operand's label and the other's word, beside the general arm's choice
-unfoldable pub compare_with : List Node → Label → ℕ → Choice → Plan
+unfoldable pub compare_with : List Node → Label → ℕ → Option Choice → Plan
 compare_with s l bound general =
     on_arg l (λ v. cond (is_unmasked_length v) (length_compared v.path bound) (mark_first s general))
     (mark_first s general)

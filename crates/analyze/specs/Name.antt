@@ -1,6 +1,6 @@
 -- The arms that name an argument or label the top alone, in the Rust's order. Operands are those of the Rust's
 -- `StepResult::args` (labels/specs/Step.antt).
-use Rattle.std.specs.Prelude.{ℕ, ◌+◌, ◌*◌, ◌%◌, Bool, true, cond, ◌&&◌, List, eqb, ltb}
+use Rattle.std.specs.Prelude.{ℕ, ◌+◌, ◌*◌, ◌%◌, Bool, true, cond, ◌&&◌, List, eqb, ltb, Option, Some, None}
 use Rattle.limits.specs.Between.{between}
 use Rattle.limits.specs.Codes as code
 use Rattle.limits.specs.Confidences.{by_byte, by_and_or_is_zero, by_sdiv_or_smod, by_mstore8, by_the_rest}
@@ -10,13 +10,10 @@ use Rattle.word.specs.declared.U256.{U256}
 use Rattle.mask.specs.Mask.{and_mask_to_type}
 use Rattle.code.specs.Guard.{guard_failure_pc, is_division_check}
 use Rattle.labels.specs.declared.Val.{Val}
-use Rattle.labels.specs.declared.Mask.{Mask}
-use Rattle.labels.specs.declared.Mask.TheVariants.{Unmasked, Masked}
 use Rattle.labels.specs.declared.Label.{Label}
 use Rattle.labels.specs.declared.Label.TheVariants.{Unlabelled, CallData, Arg, IsZeroResult}
 use Rattle.labels.specs.declared.Step.{Step}
 use Rattle.labels.specs.declared.Choice.{Choice}
-use Rattle.labels.specs.declared.Choice.TheVariants.{Chosen, Neither}
 use Rattle.labels.specs.declared.Pattern.TheVariants as pattern
 use Rattle.labels.specs.Operands.{on_arg, is_unmasked, choose, same_arg}
 use Rattle.analyze.specs.declared.OnStack.TheVariants as stack
@@ -53,9 +50,9 @@ shr active bytes x =
     nothing
 
 -- SDIV and SMOD touch the first operand that is an argument, and no other (decision D14); int256
-abbrev pub signed_first : Choice → Plan
-signed_first Neither = nothing
-signed_first (Chosen v own other) = mark_and_name v (code.int + 256) by_sdiv_or_smod
+abbrev pub signed_first : Option Choice → Plan
+signed_first None = nothing
+signed_first (Some k) = mark_and_name k.val (code.int + 256) by_sdiv_or_smod
 
 unfoldable pub signed : Step → Plan
 signed x = signed_first (choose pattern.Any x.first x.second)
@@ -63,7 +60,7 @@ signed x = signed_first (choose pattern.Any x.first x.second)
 -- the label with that mask
 abbrev pub with_mask : Val → U256 → Label
 with_mask v mask =
-    Arg (record { offset = v.offset; path = v.path; add_val = v.add_val; and_mask = Masked mask })
+    Arg (record { offset = v.offset; path = v.path; add_val = v.add_val; and_mask = Some mask })
 
 -- AND takes the first operand that is an unmasked argument; a mask that gives no type leaves the mark and puts no label
 -- (decision D13)
@@ -72,17 +69,17 @@ masked v mask t =
     cond (eqb t code.no_name) (one_operation (mark v))
     (with_stack (mark_and_name v t by_and_or_is_zero) (stack.Label (with_mask v mask)))
 
-abbrev pub and_first : Choice → Plan
-and_first Neither = nothing
-and_first (Chosen v own other) = masked v other.word (and_mask_to_type (value_of other.word))
+abbrev pub and_first : Option Choice → Plan
+and_first None = nothing
+and_first (Some k) = masked k.val k.other.word (and_mask_to_type (value_of k.other.word))
 
 unfoldable pub and : Step → Plan
 and x = and_first (choose pattern.NoMask x.first x.second)
 
 -- EQ of an argument v and the same one masked, w: the mask's type
-unfoldable pub eq_masked : Val → Val → Mask → Plan
-eq_masked v w Unmasked = nothing
-eq_masked v w (Masked mask) = cond (same_arg v w) (name_if v (and_mask_to_type (value_of mask)) by_the_rest) nothing
+unfoldable pub eq_masked : Val → Val → Option U256 → Plan
+eq_masked v w None = nothing
+eq_masked v w (Some mask) = cond (same_arg v w) (name_if v (and_mask_to_type (value_of mask)) by_the_rest) nothing
 
 -- the masked one may stand first or second
 unfoldable pub eq_both : Val → Val → Plan

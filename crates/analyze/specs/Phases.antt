@@ -1,5 +1,5 @@
 -- The phases before the arms: "hints cleared, range rule, decoder phase".
-use Rattle.std.specs.Prelude.{ℕ, ◌+◌, Bool, false, cond, not, ◌&&◌, ◌||◌, List, eqb}
+use Rattle.std.specs.Prelude.{ℕ, ◌+◌, Bool, false, cond, not, ◌&&◌, ◌||◌, List, eqb, Option, None, Some}
 use Rattle.limits.specs.Codes as code
 use Rattle.limits.specs.Confidences.{by_range}
 use Rattle.word.specs.Value.{value_of}
@@ -15,7 +15,6 @@ use Rattle.labels.specs.Operands.{on_arg, is_arg, is_unlabelled, is_unmasked}
 use Rattle.operations.specs.declared.Operation.{Operation}
 use Rattle.operations.specs.declared.Operation.TheVariants.{Nothing, ClearRangeHint, ClearRangeHints, InsertNotBool}
 use Rattle.analyze.specs.declared.Comparison.{Comparison}
-use Rattle.analyze.specs.declared.Comparison.TheVariants as comparison
 use Rattle.analyze.specs.declared.Plan.{Plan}
 use Rattle.analyze.specs.declared.Hints.{Hints}
 use Rattle.analyze.specs.Plan.{nothing, two_operations, name_as}
@@ -51,18 +50,18 @@ names_range bytes pc v bound less_than =
 
 -- the comparison by its orientation: value < bound is LT with the argument first or GT with it second (decision D1);
 -- the other operand has label kind 0 (decision D2)
-unfoldable pub comparison_of : Step → Comparison
+unfoldable pub comparison_of : Step → Option Comparison
 comparison_of x =
     cond (is_unlabelled x.second.label)
-    (on_arg x.first.label (λ v. comparison.Of v x.second.word (eqb x.op LT)) comparison.Nothing)
+    (on_arg x.first.label (λ v. Some (record { val = v; bound = x.second.word; less_than = eqb x.op LT })) None)
     (cond (is_unlabelled x.first.label)
-    (on_arg x.second.label (λ v. comparison.Of v x.first.word (eqb x.op GT)) comparison.Nothing)
-    comparison.Nothing)
+    (on_arg x.second.label (λ v. Some (record { val = v; bound = x.first.word; less_than = eqb x.op GT })) None)
+    None)
 
 -- f of what is compared; otherwise d
-abbrev pub on_comparison : {A : Type 0} → Comparison → (Val → U256 → Bool → A) → A → A
-on_comparison comparison.Nothing f d = d
-on_comparison (comparison.Of v bound less_than) f d = f v bound less_than
+abbrev pub on_comparison : {A : Type 0} → Option Comparison → (Val → U256 → Bool → A) → A → A
+on_comparison None f d = d
+on_comparison (Some c) f d = f c.val c.bound c.less_than
 
 -- does the range rule apply? "the step then stops"
 unfoldable pub range_rule : Bool → List ℕ → Step → Bool

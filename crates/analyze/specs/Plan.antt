@@ -1,13 +1,12 @@
 -- A step as data: the operations of the Rust's `ArgsResult` that it runs on the state, in order, and what it writes to
 -- the stack and to the memory (decision D20).
-use Rattle.std.specs.Prelude.{ℕ, Bool, cond, not, ◌&&◌, List, [], ◌∷◌, eqb}
+use Rattle.std.specs.Prelude.{ℕ, Bool, cond, not, ◌&&◌, List, [], ◌∷◌, eqb, None}
 use Rattle.limits.specs.Limits.{kind_array}
 use Rattle.facts.specs.State.{Node, node_of}
 use Rattle.paths.specs.Make.{ensure}
 use Rattle.labels.specs.declared.Val.{Val}
 use Rattle.labels.specs.declared.Label.{Label}
 use Rattle.labels.specs.declared.Label.TheVariants.{Arg}
-use Rattle.labels.specs.declared.Mask.TheVariants.{Unmasked}
 use Rattle.labels.specs.Stack.{with_top_label, with_top_word, with_pick_label, with_pick_one, stack_ones, memory_ones}
 use Rattle.operations.specs.declared.Operation.{Operation}
 use Rattle.operations.specs.declared.Operation.TheVariants.{Nothing, ClearRangeHint, ClearRangeHints, MarkNotBool}
@@ -80,7 +79,7 @@ is_array s r = not (eqb r 0) && eqb (node_of s r).kind kind_array
 
 -- the label of an argument, nothing added and no mask
 abbrev pub loaded_arg : ℕ → ℕ → Label
-loaded_arg offset path = Arg (record { offset = offset; path = path; add_val = 0; and_mask = Unmasked })
+loaded_arg offset path = Arg (record { offset = offset; path = path; add_val = 0; and_mask = None })
 
 -- the stack after a step. path is the path that a labelled load found, and array says whether it is an array: the load
 -- of offset 0 is then its length, which becomes 1. An array mark: every slot and entry of kind 2, offset 0, that path,

@@ -1,13 +1,12 @@
 -- What the code of a step asks for: labels whose paths are used records, in a table that holds a state. In these words
 -- one function promises something to another.
-use Rattle.std.specs.Prelude.{ℕ, ◌≤◌, List}
+use Rattle.std.specs.Prelude.{ℕ, ◌≤◌, List, Option, None, Some}
 use Rattle.limits.specs.Limits.{records_max}
 use Rattle.paths.specs.Shape.{Shaped}
 use Rattle.labels.specs.declared.Label.{Label}
 use Rattle.labels.specs.declared.Label.TheVariants.{Unlabelled, CallData, Arg, IsZeroResult}
 use Rattle.labels.specs.declared.Step.{Step}
 use Rattle.labels.specs.declared.Choice.{Choice}
-use Rattle.labels.specs.declared.Choice.TheVariants.{Chosen, Neither}
 use Rattle.operations.specs.Asks.{IsUsed, Reaches}
 use Rattle.analyze.specs.declared.Plan.{Plan}
 use Rattle.analyze.specs.declared.Hints.{Hints}
@@ -31,9 +30,9 @@ pub record StepReaches (used : ℕ) (x : Step) : Type 0 where
   pub load : LabelReaches used x.load
 
 -- the argument that was chosen of two operands, and the other operand's label
-abbrev pub ChoiceReaches : ℕ → Choice → Type 0
-ChoiceReaches used Neither = Unit {0}
-ChoiceReaches used (Chosen v own other) = IsUsed used v.path × LabelReaches used other.label
+abbrev pub ChoiceReaches : ℕ → Option Choice → Type 0
+ChoiceReaches used None = Unit {0}
+ChoiceReaches used (Some k) = IsUsed used k.val.path × LabelReaches used k.other.label
 
 -- the operations of a plan
 pub record PlanReaches (used : ℕ) (p : Plan) : Type 0 where

@@ -11,7 +11,6 @@ use Rattle.labels.specs.declared.Label.{Label}
 use Rattle.labels.specs.declared.Label.TheVariants.{Arg}
 use Rattle.labels.specs.declared.Step.{Step}
 use Rattle.labels.specs.declared.Choice.{Choice}
-use Rattle.labels.specs.declared.Choice.TheVariants.{Chosen, Neither}
 use Rattle.labels.specs.declared.Pattern.TheVariants as pattern
 use Rattle.labels.specs.Operands.{on_arg, choose, is_length}
 use Rattle.analyze.specs.declared.OnStack.{OnStack}
@@ -54,9 +53,9 @@ add_constant v own other =
     cond (is_less_one v own other) (zero_beside v sum) (kept_label v sum)
 
 -- at most one operand is an argument
-abbrev pub add_one : Choice → Plan
-add_one Neither = nothing
-add_one (Chosen v own other) = with_stack (one_operation (mark v)) (add_constant v own other.word)
+abbrev pub add_one : Option Choice → Plan
+add_one None = nothing
+add_one (Some k) = with_stack (one_operation (mark k.val)) (add_constant k.val k.own k.other.word)
 
 unfoldable pub add : List Node → Step → Plan
 add s x =

@@ -3,19 +3,23 @@
 // `arms` makes the plan, and `step` runs it.
 #![tactic(auto)]
 
+ghost use Rattle.std.specs.Prelude.{◌≡◌};
+ghost use Rattle.analyze.specs.Plan.{loaded_arg};
+
 use labels::{Label, Val};
 use operations::Operation;
 use word::U256;
 
-// A comparison of an argument with a bound: value < bound where the flag is set, value > bound where it is not.
-#[derive(Clone, Copy)]
-pub enum Comparison {
-    Of(Val, U256, bool),
-    Nothing,
+// A comparison of an argument with a bound: value < bound where `less_than` is set, value > bound where it is not.
+#[derive(Clone, Copy, Debug, PartialEq, Eq)]
+pub struct Comparison {
+    pub val: Val,
+    pub bound: U256,
+    pub less_than: bool,
 }
 
 // What is written to the stack: to the top slot, and for `Ones` first to each slot that holds the length at a path.
-#[derive(Clone, Copy)]
+#[derive(Clone, Copy, Debug, PartialEq, Eq)]
 pub enum OnStack {
     Keep,
     Word(u32),
@@ -29,7 +33,7 @@ pub enum OnStack {
 
 // What is written to the memory: to the entry that was picked, and for `Ones` to each entry that holds the length at a
 // path.
-#[derive(Clone, Copy)]
+#[derive(Clone, Copy, Debug, PartialEq, Eq)]
 pub enum InMemory {
     Keep,
     // pick, label
@@ -41,7 +45,7 @@ pub enum InMemory {
 }
 
 // What a step does behind its first phase, three operations at most.
-#[derive(Clone, Copy)]
+#[derive(Clone, Copy, Debug, PartialEq, Eq)]
 pub struct Plan {
     pub first: Operation,
     pub second: Operation,
@@ -51,8 +55,20 @@ pub struct Plan {
 }
 
 // The first phase: hints cleared, at most those of two operands.
-#[derive(Clone, Copy)]
+#[derive(Clone, Copy, Debug, PartialEq, Eq)]
 pub struct Hints {
     pub first: Operation,
     pub second: Operation,
+}
+
+// The label of an argument, nothing added and no mask.
+pub fn loaded_arg(offset: u32, path: u32) -> Label
+    ensures { result ≡ loaded_arg offset path }
+{
+    Label::Arg(Val {
+        offset,
+        path,
+        add_val: 0,
+        and_mask: None,
+    })
 }

@@ -114,11 +114,11 @@ fn unless_range(facts: &Facts, val: Val) -> Plan
 }
 
 // The general arm of LT, GT and MUL.
-fn mark_first(facts: &Facts, choice: Choice) -> Plan
+fn mark_first(facts: &Facts, choice: Option<Choice>) -> Plan
     requires { ChoiceReaches facts.now.used choice }
     ensures { result ≡ mark_first (facts_of facts.now) choice }
 {
-    let Choice::Chosen(val, _, _) = choice else {
+    let Some(Choice { val, .. }) = choice else {
         return nothing();
     };
     unless_range(facts, val)
@@ -130,8 +130,8 @@ pub fn mul(facts: &Facts, step: Step) -> Plan
     ensures { result ≡ mul (facts_of facts.now) step }
 {
     match choose(Pattern::Length, step.first, step.second) {
-        Choice::Chosen(val, _, other) => { multiply(facts, val.path, other.label, other.word) }
-        Choice::Neither => {
+        Some(Choice { val, other, .. }) => { multiply(facts, val.path, other.label, other.word) }
+        None => {
             let any = choose(Pattern::Any, step.first, step.second);
             mark_first(facts, any)
         }
@@ -201,7 +201,7 @@ fn length_compared(path: u32, bound: U256) -> Plan
 
 // The length arm for that operand and bound, else the general arm.
 #[tactic(auto, unfolding(analyze::specs::Length::compare_with))]
-fn compare_with(facts: &Facts, label: Label, bound: U256, general: Choice) -> Plan
+fn compare_with(facts: &Facts, label: Label, bound: U256, general: Option<Choice>) -> Plan
     requires { ChoiceReaches facts.now.used general }
     ensures { result ≡ compare_with (facts_of facts.now) label (value_of bound) general }
 {

@@ -3,15 +3,14 @@ ghost use Rattle.std.specs.Prelude.{◌≡◌, true};
 ghost use Rattle.word.specs.Value.{value_of};
 ghost use Rattle.paths.specs.Lent.{facts_of};
 ghost use Rattle.operations.specs.Asks.{IsUsed};
-ghost use Rattle.analyze.specs.Plan.{loaded_arg};
 ghost use Rattle.analyze.specs.Load.{is_whole_word, new_offset, name_copied, followed, labelled_load, found, unlabelled_load};
 ghost use Rattle.analyze.specs.Load.{load};
 ghost use Rattle.analyze.specs.Ready.{StepReaches};
 
 use crate::plans::{and_memory, and_stack, nothing};
-use analyze::{InMemory, OnStack, Plan};
+use analyze::{InMemory, OnStack, Plan, loaded_arg};
 use kinds::arrays_in_path;
-use labels::{Label, Mask, Step, Val};
+use labels::{Label, Step, Val};
 use limits::codes::BYTES;
 use limits::confidences::BY_BYTES;
 use limits::{LOAD_MAX, SELECTOR_BYTES, WORD_BYTES};
@@ -20,18 +19,6 @@ use operations::Operation;
 use paths::Facts;
 use word::U256;
 use word::sum::keep;
-
-// The label of an argument, nothing added and no mask.
-fn loaded_arg(offset: u32, path: u32) -> Label
-    ensures { result ≡ loaded_arg offset path }
-{
-    Label::Arg(Val {
-        offset,
-        path,
-        add_val: 0,
-        and_mask: Mask::Unmasked,
-    })
-}
 
 // Is it behind the selector, at a whole word?
 #[tactic(auto, unfolding(analyze::specs::Load::is_whole_word))]

@@ -8,7 +8,7 @@ ghost use Rattle.analyze.specs.Name.{eq_masked, eq_both, eq, zero_tested, is_zer
 use crate::plans::{and_stack, mark_and_name, nothing, one_operation};
 use analyze::{OnStack, Plan};
 use code::{guard_failure_pc, is_division_check};
-use labels::{Choice, Label, Mask, Pattern, Step, Val, choose, is_unmasked, same_arg};
+use labels::{Choice, Label, Pattern, Step, Val, choose, is_unmasked, same_arg};
 use limits::codes::{ADDRESS, BOOL, FIXED_BYTES, INT, NO_NAME, UINT};
 use limits::confidences::{BY_AND_OR_ISZERO, BY_BYTE, BY_MSTORE8, BY_SDIV_OR_SMOD, BY_THE_REST};
 use limits::{ADDRESS_BITS, WORD_BYTES};
@@ -84,7 +84,7 @@ pub fn shr(active: bool, code: &[u8], step: Step) -> Plan
 pub fn signed(step: Step) -> Plan
     ensures { result ≡ signed step }
 {
-    let Choice::Chosen(val, _, _) = choose(Pattern::Any, step.first, step.second) else {
+    let Some(Choice { val, .. }) = choose(Pattern::Any, step.first, step.second) else {
         return nothing();
     };
     mark_and_name(val, INT + 256, BY_SDIV_OR_SMOD)
@@ -95,7 +95,7 @@ fn with_mask(val: Val, mask: U256) -> Label
     ensures { result ≡ with_mask val mask }
 {
     Label::Arg(Val {
-        and_mask: Mask::Masked(mask),
+        and_mask: Some(mask),
         ..val
     })
 }
@@ -118,7 +118,7 @@ fn masked(val: Val, mask: U256, name: u32) -> Plan
 pub fn and(step: Step) -> Plan
     ensures { result ≡ and step }
 {
-    let Choice::Chosen(val, _, other) = choose(Pattern::NoMask, step.first, step.second) else {
+    let Some(Choice { val, other, .. }) = choose(Pattern::NoMask, step.first, step.second) else {
         return nothing();
     };
     masked(val, other.word, and_mask_to_type(other.word))
@@ -126,10 +126,10 @@ pub fn and(step: Step) -> Plan
 
 // EQ of v and of w, which is v masked.
 #[tactic(auto, unfolding(analyze::specs::Name::eq_masked))]
-fn eq_masked(v: Val, w: Val, mask: Mask) -> Plan
+fn eq_masked(v: Val, w: Val, mask: Option<U256>) -> Plan
     ensures { result ≡ eq_masked v w mask }
 {
-    let Mask::Masked(m) = mask else {
+    let Some(m) = mask else {
         return nothing();
     };
     if !same_arg(v, w) {

@@ -102,10 +102,10 @@ fn add_constant(val: Val, own: U256, other: U256) -> OnStack
 }
 
 // At most one operand is an argument.
-fn add_one(choice: Choice) -> Plan
+fn add_one(choice: Option<Choice>) -> Plan
     ensures { result ≡ add_one choice }
 {
-    let Choice::Chosen(val, own, other) = choice else {
+    let Some(Choice { val, own, other }) = choice else {
         return nothing();
     };
     and_stack(

@@ -11,16 +11,16 @@ use borrow.Table.Steps.{cases}
 use lib.Dec.{eqb, leb}
 use lib.ListN.{length, get_or, set, replicate, length-append, get_or-append}
 use lib.Seq.{sets, length-sets, set-get_or}
+use Rattle.std.specs.Prelude.{Option, Some, None}
 use Rattle.limits.specs.Between.{between}
 use Rattle.limits.specs.Layout.{label_width, label_offset, label_path, label_added, label_masked, label_mask, label_call_data}
 use Rattle.limits.specs.Layout.{label_argument, label_zero_test, slot_width, slot_label}
 use Rattle.word.specs.Numbers.{limb_at, limbs_at, numbers_of}
 use Rattle.word.proofs.Comparisons.{both_true}
 use Rattle.word.proofs.EightNumbers.{get_d_sets, read_written, written_read}
+use Rattle.word.specs.declared.U256.{U256}
 use Rattle.labels.specs.declared.Label.{Label}
 use Rattle.labels.specs.declared.Label.TheVariants.{Unlabelled, CallData, Arg, IsZeroResult}
-use Rattle.labels.specs.declared.Mask.{Mask}
-use Rattle.labels.specs.declared.Mask.TheVariants.{Unmasked, Masked}
 use Rattle.labels.specs.declared.Val.{Val}
 use Rattle.labels.specs.declared.Element.{Element}
 use Rattle.labels.specs.Label.{mask_at, val_at, label_at, mask_numbers, val_numbers, label_numbers}
@@ -58,12 +58,12 @@ module _ (s : List ℕ) where
         (λ z.
         let is_zero : m ≡ 0 = eqb-true m 0 z in
         let unmasked = no_mask s at (λ q. omega (arith, q, is_zero)) in
-        ap (λ (x : Mask). sets s (at + label_masked) (mask_numbers x)) (sym unmasked)
+        ap (λ (x : Option U256). sets s (at + label_masked) (mask_numbers x)) (sym unmasked)
         ∙ same_number (at + label_masked) (at + label_mask) 0 (replicate 8 0) (omega arith) (sym is_zero)
         (zeros_kept 8 (at + label_mask) (sym (ap (λ (b : Bool). cond b (zeros s (at + label_mask) 8) (eqb m 1)) z) ∙ e)))
         (λ z.
         let is_one : m ≡ 1 = eqb-true m 1 (sym (ap (λ (b : Bool). cond b (zeros s (at + label_mask) 8) (eqb m 1)) z) ∙ e) in
-        ap (λ (x : Mask). sets s (at + label_masked) (mask_numbers x)) (sym (mask_there s at _ is_one refl))
+        ap (λ (x : Option U256). sets s (at + label_masked) (mask_numbers x)) (sym (mask_there s at _ is_one refl))
         ∙ same_number (at + label_masked) (at + label_mask) 1 (numbers_of (limbs_at s (at + label_mask))) (omega arith) (sym is_one) (written_read s (at + label_mask) small))
 
     val_kept : (kind : ℕ) → kind ≡ get_or s at 0 → is_mask s at ≡ true → sets s at (val_numbers kind (val_at s at)) ≡ s
@@ -126,12 +126,12 @@ module _ (s : List ℕ) where
 
 -- what kinds 0 and 1 hold
 abbrev blank : Val
-blank = record { offset = 0; path = 0; add_val = 0; and_mask = Unmasked }
+blank = record { offset = 0; path = 0; add_val = 0; and_mask = None }
 
 -- how many numbers
-mask_length : (m : Mask) → length (mask_numbers m) ≡ 9
-mask_length Unmasked = refl
-mask_length (Masked m) = refl
+mask_length : (m : Option U256) → length (mask_numbers m) ≡ 9
+mask_length None = refl
+mask_length (Some m) = refl
 
 label_length : (l : Label) → length (label_numbers l) ≡ label_width
 label_length Unlabelled = refl
@@ -143,20 +143,20 @@ label_length (IsZeroResult v) = ap (λ (n : ℕ). suc (suc (suc (suc n)))) (mask
 module _ (s : List ℕ) (at : ℕ) where
   module _ (fits : at + label_width ≤ length s) where
     module _ (kind o p a : ℕ) where
-      mask_again : (m : Mask) → m ≡ mask_at (sets s at (kind ∷ o ∷ p ∷ a ∷ mask_numbers m)) at
-      mask_again Unmasked =
-          let ns : List ℕ = kind ∷ o ∷ p ∷ a ∷ mask_numbers Unmasked in
+      mask_again : (m : Option U256) → m ≡ mask_at (sets s at (kind ∷ o ∷ p ∷ a ∷ mask_numbers m)) at
+      mask_again None =
+          let ns : List ℕ = kind ∷ o ∷ p ∷ a ∷ mask_numbers None in
           let is_zero : get_or (sets s at ns) (at + label_masked) 0 ≡ 0 = get_d_sets s ns at label_masked fits (omega arith) in
           no_mask (sets s at ns) at (λ q. omega (arith, q, is_zero))
-      mask_again (Masked m) =
+      mask_again (Some m) =
           let before : List ℕ = sets s at (kind ∷ o ∷ p ∷ a ∷ 1 ∷ []) in
           let place : suc (suc (suc (suc (suc at)))) ≡ at + label_mask = omega arith in
           let room : at + label_mask + 8 ≤ length before = rw (length-sets s at (kind ∷ o ∷ p ∷ a ∷ 1 ∷ [])) (omega arith) in
-          let ns : List ℕ = kind ∷ o ∷ p ∷ a ∷ mask_numbers (Masked m) in
+          let ns : List ℕ = kind ∷ o ∷ p ∷ a ∷ mask_numbers (Some m) in
           mask_there (sets s at ns) at m (get_d_sets s ns at label_masked fits (omega arith))
           (sym (ap (λ (k : ℕ). limbs_at (sets before k (numbers_of m)) (at + label_mask)) place ∙ read_written before (at + label_mask) m room))
 
-      stored : (m : Mask) (i : ℕ) → i < 5 → get_or (sets s at (kind ∷ o ∷ p ∷ a ∷ mask_numbers m)) (at + i) 0 ≡ get_or (kind ∷ o ∷ p ∷ a ∷ mask_numbers m) i 0
+      stored : (m : Option U256) (i : ℕ) → i < 5 → get_or (sets s at (kind ∷ o ∷ p ∷ a ∷ mask_numbers m)) (at + i) 0 ≡ get_or (kind ∷ o ∷ p ∷ a ∷ mask_numbers m) i 0
       stored m i l = get_d_sets s (kind ∷ o ∷ p ∷ a ∷ mask_numbers m) at i (omega (arith, fits, mask_length m)) (omega (arith, l, mask_length m))
 
     kind_again : (kind : ℕ) (v : Val) → get_or (sets s at (val_numbers kind v)) at 0 ≡ kind

@@ -1,6 +1,4 @@
-pub mod Choosing
 pub mod Kept
 pub mod Stacks
 pub mod Tests
 pub mod Readings
-pub mod Writings

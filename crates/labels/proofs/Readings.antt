@@ -4,29 +4,26 @@ use mathlib.Core.Path.{◌≡◌}
 use mathlib.Core.List.{List}
 use borrow.Author.Tests.{eq-eqb, ne_eqb}
 use lib.ListN.{get_or}
+use Rattle.std.specs.Prelude.{Option, Some, None}
 use Rattle.limits.specs.Layout.{label_offset, label_path, label_added, label_masked, label_mask, label_call_data}
-use Rattle.limits.specs.Layout.{label_argument, label_zero_test, slot_label, step_op, step_pc, step_first, step_second}
-use Rattle.limits.specs.Layout.{step_pick, step_load}
+use Rattle.limits.specs.Layout.{label_argument, label_zero_test, slot_label}
 use Rattle.word.specs.Numbers.{limbs_at}
 use Rattle.word.specs.declared.U256.{U256}
 use Rattle.labels.specs.declared.Label.{Label}
 use Rattle.labels.specs.declared.Label.TheVariants.{Unlabelled, CallData, Arg, IsZeroResult}
-use Rattle.labels.specs.declared.Mask.{Mask}
-use Rattle.labels.specs.declared.Mask.TheVariants.{Unmasked, Masked}
 use Rattle.labels.specs.declared.Val.{Val}
 use Rattle.labels.specs.declared.Element.{Element}
-use Rattle.labels.specs.declared.Step.{Step}
 use Rattle.labels.specs.Label.{mask_at, val_at, label_of, label_at}
-use Rattle.labels.specs.Step.{element_at, step_of}
+use Rattle.labels.specs.Step.{element_at}
 
 module _ (s : List ℕ) (at : ℕ) where
-  pub mask_there : (x : U256) → get_or s (at + label_masked) 0 ≡ 1 → x ≡ limbs_at s (at + label_mask) → Masked x ≡ mask_at s at
+  pub mask_there : (x : U256) → get_or s (at + label_masked) 0 ≡ 1 → x ≡ limbs_at s (at + label_mask) → Some x ≡ mask_at s at
   mask_there x e ex = rw ex (simp (eq-eqb _ 1 e))
 
-  pub no_mask : (get_or s (at + label_masked) 0 ≡ 1 → ⊥) → Unmasked ≡ mask_at s at
+  pub no_mask : (get_or s (at + label_masked) 0 ≡ 1 → ⊥) → None ≡ mask_at s at
   no_mask f = simp (ne_eqb _ 1 f)
 
-  pub val_read : (o p a : ℕ) (m : Mask) → o ≡ get_or s (at + label_offset) 0 → p ≡ get_or s (at + label_path) 0 → a ≡ get_or s (at + label_added) 0 → m ≡ mask_at s at →
+  pub val_read : (o p a : ℕ) (m : Option U256) → o ≡ get_or s (at + label_offset) 0 → p ≡ get_or s (at + label_path) 0 → a ≡ get_or s (at + label_added) 0 → m ≡ mask_at s at →
       ◌≡◌ {A = Val} (record { offset = o; path = p; add_val = a; and_mask = m }) (val_at s at)
   val_read o p a m eo ep ea em i = record { offset = eo i; path = ep i; add_val = ea i; and_mask = em i }
 
@@ -48,8 +45,3 @@ module _ (s : List ℕ) (at : ℕ) where
 
   pub element_read : (w : U256) (l : Label) → w ≡ limbs_at s at → l ≡ label_at s (at + slot_label) → ◌≡◌ {A = Element} (record { word = w; label = l }) (element_at s at)
   element_read w l ew el i = record { word = ew i; label = el i }
-
-pub step_read : (s : List ℕ) (f g : Element) (l : Label) → f ≡ element_at s step_first → g ≡ element_at s step_second → l ≡ label_at s step_load →
-    ◌≡◌ {A = Step} (record { op = get_or s step_op 0; pc = get_or s step_pc 0; first = f; second = g; pick = get_or s step_pick 0; load = l }) (step_of s)
-unfolding step_of
-step_read s f g l ef eg el i = record { op = get_or s step_op 0; pc = get_or s step_pc 0; first = ef i; second = eg i; pick = get_or s step_pick 0; load = el i }

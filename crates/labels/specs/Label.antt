@@ -1,18 +1,17 @@
 -- A label's 13 numbers: "kind 0 to 3 in that order, offset, path (a record number), added value, masked (0 or 1),
 -- mask".
-use Rattle.std.specs.Prelude.{ℕ, ◌+◌, cond, List, ◌∷◌, eqb, get_or, replicate}
+use Rattle.std.specs.Prelude.{ℕ, ◌+◌, cond, List, ◌∷◌, eqb, get_or, replicate, Option, Some, None}
 use Rattle.limits.specs.Layout.{label_width, label_offset, label_path, label_added, label_masked, label_mask, label_call_data}
 use Rattle.limits.specs.Layout.{label_argument, label_zero_test}
 use Rattle.word.specs.Numbers.{limbs_at, numbers_of}
+use Rattle.word.specs.declared.U256.{U256}
 use Rattle.labels.specs.declared.Label.{Label}
 use Rattle.labels.specs.declared.Label.TheVariants.{Unlabelled, CallData, Arg, IsZeroResult}
-use Rattle.labels.specs.declared.Mask.{Mask}
-use Rattle.labels.specs.declared.Mask.TheVariants.{Unmasked, Masked}
 use Rattle.labels.specs.declared.Val.{Val}
 
 -- the mask that stands in the label at `at`
-abbrev pub mask_at : List ℕ → ℕ → Mask
-mask_at s at = cond (eqb (get_or s (at + label_masked) 0) 1) (Masked (limbs_at s (at + label_mask))) Unmasked
+abbrev pub mask_at : List ℕ → ℕ → Option U256
+mask_at s at = cond (eqb (get_or s (at + label_masked) 0) 1) (Some (limbs_at s (at + label_mask))) None
 
 -- what the label at `at` says of an argument
 abbrev pub val_at : List ℕ → ℕ → Val
@@ -35,9 +34,9 @@ abbrev pub label_at : List ℕ → ℕ → Label
 label_at s at = label_of (get_or s at 0) s at
 
 -- the nine numbers of a mask, masked first: "an unmasked mask" has "zero in what they don't use"
-abbrev pub mask_numbers : Mask → List ℕ
-mask_numbers Unmasked = replicate 9 0
-mask_numbers (Masked m) = 1 ∷ numbers_of m
+abbrev pub mask_numbers : Option U256 → List ℕ
+mask_numbers None = replicate 9 0
+mask_numbers (Some m) = 1 ∷ numbers_of m
 
 abbrev pub val_numbers : ℕ → Val → List ℕ
 val_numbers kind v = kind ∷ v.offset ∷ v.path ∷ v.add_val ∷ mask_numbers v.and_mask

@@ -1,15 +1,13 @@
 -- What a step asks of its operands: the Rust's patterns `elabel!` and `match_first_two!`.
-use Rattle.std.specs.Prelude.{ℕ, Bool, true, false, cond, ◌&&◌, eqb}
+use Rattle.std.specs.Prelude.{ℕ, Bool, true, false, cond, ◌&&◌, eqb, Option, Some, None}
+use Rattle.word.specs.declared.U256.{U256}
 use Rattle.labels.specs.declared.Label.{Label}
 use Rattle.labels.specs.declared.Label.TheVariants.{Unlabelled, CallData, Arg, IsZeroResult}
-use Rattle.labels.specs.declared.Mask.{Mask}
-use Rattle.labels.specs.declared.Mask.TheVariants.{Unmasked, Masked}
 use Rattle.labels.specs.declared.Val.{Val}
 use Rattle.labels.specs.declared.Element.{Element}
 use Rattle.labels.specs.declared.Pattern.{Pattern}
 use Rattle.labels.specs.declared.Pattern.TheVariants as pattern
 use Rattle.labels.specs.declared.Choice.{Choice}
-use Rattle.labels.specs.declared.Choice.TheVariants.{Chosen, Neither}
 
 -- f of what an argument's label says; otherwise d
 abbrev pub on_arg : {A : Type 0} → Label → (Val → A) → A → A
@@ -27,9 +25,9 @@ is_unlabelled CallData = false
 is_unlabelled (Arg v) = false
 is_unlabelled (IsZeroResult v) = false
 
-abbrev pub is_unmasked : Mask → Bool
-is_unmasked Unmasked = true
-is_unmasked (Masked m) = false
+abbrev pub is_unmasked : Option U256 → Bool
+is_unmasked None = true
+is_unmasked (Some m) = false
 
 -- `offset: 0, add_val: 0`
 unfoldable pub is_length : Val → Bool
@@ -46,12 +44,12 @@ passes pattern.Length v = is_length v
 passes pattern.NoMask v = is_unmasked v.and_mask
 
 -- the operand e, if it is an argument that passes, beside the other one; otherwise d
-abbrev pub chosen_or : Pattern → Element → Element → Choice → Choice
-chosen_or p e other d = on_arg e.label (λ v. cond (passes p v) (Chosen v e.word other) d) d
+abbrev pub chosen_or : Pattern → Element → Element → Option Choice → Option Choice
+chosen_or p e other d = on_arg e.label (λ v. cond (passes p v) (Some (record { val = v; own = e.word; other = other })) d) d
 
 -- `match_first_two!`: the first operand if it is an argument that passes, else the second if it is one
-unfoldable pub choose : Pattern → Element → Element → Choice
-choose p a b = chosen_or p a b (chosen_or p b a Neither)
+unfoldable pub choose : Pattern → Element → Element → Option Choice
+choose p a b = chosen_or p a b (chosen_or p b a None)
 
 -- do two labels speak of one argument with one constant added?
 unfoldable pub same_arg : Val → Val → Bool

@@ -24,6 +24,7 @@ fn is_mask(s: &[u32], at: usize) -> bool
 }
 
 // Is the label at an index of s well formed, its path one of the first `used` records?
+#[tactic(auto, unfolding(crate::specs::Formed::is_label))]
 pub fn is_label(s: &[u32], at: usize, used: u32) -> bool
     requires { at + label_width ≤ length s.now }
     ensures { result ≡ is_label used s.now at }
@@ -40,13 +41,10 @@ pub fn is_label(s: &[u32], at: usize, used: u32) -> bool
 pub fn are_slots(s: &[u32], used: u32) -> bool
     ensures { result ≡ are_slots used s.now }
 {
-    let n = s.len() / SLOT_WIDTH;
-    let mut i = 0;
-    while i < n {
+    for i in 0..s.len() / SLOT_WIDTH {
         if !is_label(s, i * SLOT_WIDTH + SLOT_LABEL, used) {
             return false;
         }
-        i += 1;
     }
     true
 }
@@ -59,17 +57,15 @@ fn is_entry(s: &[u32], at: usize, used: u32) -> bool
     (s[at + ENTRY_REPLACED] <= 1) & is_label(s, at + ENTRY_LABEL, used)
 }
 
-// Are all of the memory?
+// Are all of the memory? An entry has a mark to look at besides, so one function for slots and entries would take the
+// test of each: no plainer.
 pub fn are_entries(s: &[u32], used: u32) -> bool
     ensures { result ≡ are_entries used s.now }
 {
-    let n = s.len() / ENTRY_WIDTH;
-    let mut i = 0;
-    while i < n {
+    for i in 0..s.len() / ENTRY_WIDTH {
         if !is_entry(s, i * ENTRY_WIDTH, used) {
             return false;
         }
-        i += 1;
     }
     true
 }

@@ -19,25 +19,18 @@ pub use steps::read_step;
 use word::U256;
 pub use write::{put_label, put_small};
 
-// A label's mask, the Rust's `and_mask`.
-#[derive(Clone, Copy)]
-pub enum Mask {
-    Unmasked,
-    Masked(U256),
-}
-
 // What an argument's label says: the argument at an offset below a path, with a constant added and a mask applied. A
-// path is a record's number.
-#[derive(Clone, Copy)]
+// path is a record's number. `and_mask` is None where no mask was applied.
+#[derive(Clone, Copy, Debug, PartialEq, Eq)]
 pub struct Val {
     pub offset: u32,
     pub path: u32,
     pub add_val: u32,
-    pub and_mask: Mask,
+    pub and_mask: Option<U256>,
 }
 
 // "A label is none, call data, argument, or zero test of an argument".
-#[derive(Clone, Copy)]
+#[derive(Clone, Copy, Debug, PartialEq, Eq)]
 pub enum Label {
     Unlabelled,
     CallData,
@@ -46,14 +39,14 @@ pub enum Label {
 }
 
 // A word with its label: a stack slot or an operand.
-#[derive(Clone, Copy)]
+#[derive(Clone, Copy, Debug, PartialEq, Eq)]
 pub struct Element {
     pub word: U256,
     pub label: Label,
 }
 
 // What the machine hands over with a step. The load label is `Unlabelled` where the load flag is 0.
-#[derive(Clone, Copy)]
+#[derive(Clone, Copy, Debug, PartialEq, Eq)]
 pub struct Step {
     pub op: u8,
     pub pc: u32,
@@ -64,15 +57,17 @@ pub struct Step {
 }
 
 // An operand that is an argument, with its own word, and the other operand: the Rust's `match_first_two!`.
-#[derive(Clone, Copy)]
-pub enum Choice {
-    Chosen(Val, U256, Element),
-    Neither,
+#[derive(Clone, Copy, Debug, PartialEq, Eq)]
+pub struct Choice {
+    pub val: Val,
+    pub own: U256,
+    pub other: Element,
 }
 
 // Which labels of an argument an arm's pattern takes: any, those with `offset: 0, add_val: 0`, those with `and_mask:
-// None`.
-#[derive(Clone, Copy)]
+// None`. With a closure in its place the contract of `choose` would speak of each test that the closure answers for: no
+// plainer than three cases.
+#[derive(Clone, Copy, Debug, PartialEq, Eq)]
 pub enum Pattern {
     Any,
     Length,

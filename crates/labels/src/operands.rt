@@ -3,18 +3,17 @@ ghost use Rattle.std.specs.Prelude.{◌≡◌};
 ghost use Rattle.labels.specs.Operands.{is_unmasked, is_length, is_unmasked_length, passes, choose, chosen_or};
 ghost use Rattle.labels.specs.Operands.{same_arg, is_length_of};
 
-use crate::{Choice, Element, Label, Mask, Pattern, Val};
+use crate::{Choice, Element, Label, Pattern, Val};
+use word::U256;
 
-pub fn is_unmasked(mask: Mask) -> bool
+pub fn is_unmasked(mask: Option<U256>) -> bool
     ensures { result ≡ is_unmasked mask }
 {
-    match mask {
-        Mask::Unmasked => true,
-        Mask::Masked(_) => false,
-    }
+    mask.is_none()
 }
 
 // Is it a length: offset 0, nothing added?
+#[tactic(auto, unfolding(crate::specs::Operands::is_length))]
 pub fn is_length(val: Val) -> bool
     ensures { result ≡ is_length val }
 {
@@ -22,49 +21,48 @@ pub fn is_length(val: Val) -> bool
 }
 
 // Is it one with no mask?
+#[tactic(auto, unfolding(crate::specs::Operands::is_unmasked_length))]
 pub fn is_unmasked_length(val: Val) -> bool
     ensures { result ≡ is_unmasked_length val }
 {
-    let mask = val.and_mask;
-    is_length(val) & is_unmasked(mask)
+    is_length(val) & is_unmasked(val.and_mask)
 }
 
 // Does what a label says pass an arm's pattern?
+#[tactic(auto, unfolding(crate::specs::Operands::passes))]
 fn passes(pattern: Pattern, val: Val) -> bool
     ensures { result ≡ passes pattern val }
 {
     match pattern {
         Pattern::Any => true,
         Pattern::Length => is_length(val),
-        Pattern::NoMask => {
-            let mask = val.and_mask;
-            is_unmasked(mask)
-        }
+        Pattern::NoMask => is_unmasked(val.and_mask),
     }
 }
 
-fn chosen_or(pattern: Pattern, e: Element, other: Element, d: Choice) -> Choice
+fn chosen_or(pattern: Pattern, e: Element, other: Element, d: Option<Choice>) -> Option<Choice>
     ensures { result ≡ chosen_or pattern e other d }
 {
-    let label = e.label;
-    let Label::Arg(val) = label else {
-        return d;
-    };
-    if passes(pattern, val) {
-        let word = e.word;
-        return Choice::Chosen(val, word, other);
+    match e.label {
+        Label::Arg(val) if passes(pattern, val) => Some(Choice {
+            val,
+            own: e.word,
+            other,
+        }),
+        _ => d,
     }
-    d
 }
 
 // The first operand that is an argument and passes the pattern.
-pub fn choose(pattern: Pattern, a: Element, b: Element) -> Choice
+#[tactic(auto, unfolding(crate::specs::Operands::choose))]
+pub fn choose(pattern: Pattern, a: Element, b: Element) -> Option<Choice>
     ensures { result ≡ choose pattern a b }
 {
-    chosen_or(pattern, a, b, chosen_or(pattern, b, a, Choice::Neither))
+    chosen_or(pattern, a, b, chosen_or(pattern, b, a, None))
 }
 
 // Do two labels speak of one argument with one constant added?
+#[tactic(auto, unfolding(crate::specs::Operands::same_arg))]
 pub fn same_arg(v: Val, w: Val) -> bool
     ensures { result ≡ same_arg v w }
 {
@@ -72,6 +70,7 @@ pub fn same_arg(v: Val, w: Val) -> bool
 }
 
 // Is it the length at that path, masked or not?
+#[tactic(auto, unfolding(crate::specs::Operands::is_length_of))]
 pub fn is_length_of(path: u32, label: Label) -> bool
     ensures { result ≡ is_length_of path label }
 {

@@ -5,33 +5,33 @@ ghost use Rattle.labels.specs.Label.{mask_at, val_at};
 ghost use Rattle.labels.specs.Read.{ReadAs};
 ghost use Rattle.labels.specs.Step.{element_at};
 
-use crate::{Element, Label, Mask, Val};
+use crate::{Element, Label, Val};
 use limits::layout::{
     LABEL_ADDED, LABEL_ARGUMENT, LABEL_CALL_DATA, LABEL_MASK, LABEL_MASKED, LABEL_OFFSET,
     LABEL_PATH, LABEL_ZERO_TEST, SLOT_LABEL,
 };
+use word::U256;
 use word::numbers::from_numbers;
 
-fn read_mask(s: &[u32], at: usize) -> Mask
+fn read_mask(s: &[u32], at: usize) -> Option<U256>
     requires { at + label_width ≤ length s.now }
     ensures { result ≡ mask_at s.now at }
 {
     if s[at + LABEL_MASKED] == 1 {
-        return Mask::Masked(from_numbers(s, at + LABEL_MASK));
+        return Some(from_numbers(s, at + LABEL_MASK));
     }
-    Mask::Unmasked
+    None
 }
 
 fn read_val(s: &[u32], at: usize) -> Val
     requires { at + label_width ≤ length s.now }
     ensures { result ≡ val_at s.now at }
 {
-    let and_mask = read_mask(s, at);
     Val {
         offset: s[at + LABEL_OFFSET],
         path: s[at + LABEL_PATH],
         add_val: s[at + LABEL_ADDED],
-        and_mask,
+        and_mask: read_mask(s, at),
     }
 }
 

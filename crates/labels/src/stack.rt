@@ -10,6 +10,7 @@ use crate::read::read_label;
 use crate::write::{put_label, put_small};
 use limits::layout::{ENTRY_LABEL, ENTRY_REPLACED, ENTRY_WIDTH, SLOT_LABEL, SLOT_WIDTH};
 
+#[tactic(auto, unfolding(crate::specs::Stack::with_top_label))]
 pub fn put_top_label(stack: &mut [u32], label: Label)
     requires { slot_width ≤ length stack.old }
     ensures { stack.new ≡ with_top_label stack.old label }
@@ -18,6 +19,7 @@ pub fn put_top_label(stack: &mut [u32], label: Label)
     put_label(stack, top + SLOT_LABEL, label);
 }
 
+#[tactic(auto, unfolding(crate::specs::Stack::with_top_word))]
 pub fn put_top_word(stack: &mut [u32], n: u32)
     requires { slot_width ≤ length stack.old }
     ensures { stack.new ≡ with_top_word stack.old n }
@@ -26,6 +28,7 @@ pub fn put_top_word(stack: &mut [u32], n: u32)
     put_small(stack, top, n);
 }
 
+#[tactic(auto, unfolding(crate::specs::Stack::with_pick_label))]
 pub fn put_pick_label(memory: &mut [u32], pick: u32, label: Label)
     requires { pick * entry_width ≤ length memory.old }
     ensures { memory.new ≡ with_pick_label memory.old pick label }
@@ -37,6 +40,7 @@ pub fn put_pick_label(memory: &mut [u32], pick: u32, label: Label)
     put_label(memory, at + ENTRY_LABEL, label);
 }
 
+#[tactic(auto, unfolding(crate::specs::Stack::with_pick_one))]
 pub fn put_pick_one(memory: &mut [u32], pick: u32)
     requires { pick * entry_width ≤ length memory.old }
     ensures { memory.new ≡ with_pick_one memory.old pick }
@@ -52,23 +56,18 @@ pub fn put_pick_one(memory: &mut [u32], pick: u32)
 pub fn stack_ones(stack: &mut [u32], path: u32)
     ensures { stack.new ≡ stack_ones path stack.old }
 {
-    let n = stack.len() / SLOT_WIDTH;
-    let mut i = 0;
-    while i < n {
+    for i in 0..stack.len() / SLOT_WIDTH {
         slot_one(stack, path, i);
-        i += 1;
     }
 }
 
-// The same for each entry.
+// The same for each entry. A slot's word is eight numbers and an entry's mark is one, so one function for both would
+// take what to store and where: no plainer.
 pub fn memory_ones(memory: &mut [u32], path: u32)
     ensures { memory.new ≡ memory_ones path memory.old }
 {
-    let n = memory.len() / ENTRY_WIDTH;
-    let mut i = 0;
-    while i < n {
+    for i in 0..memory.len() / ENTRY_WIDTH {
         entry_one(memory, path, i);
-        i += 1;
     }
 }
 

@@ -8,6 +8,7 @@ use crate::read::{read_element, read_label};
 use limits::layout::{STEP_FIRST, STEP_LOAD, STEP_OP, STEP_PC, STEP_PICK, STEP_SECOND};
 
 // The step that 59 numbers say; question 6 has bounded its opcode.
+#[tactic(auto, unfolding(crate::specs::Step::step_of))]
 pub fn read_step(s: &[u32]) -> Step
     requires s_len { length s.now ≡ step_width }
     requires step_op_bound { get_or s.now step_op 0 ≤ 255 }

@@ -5,7 +5,7 @@ ghost use Rattle.limits.specs.Layout.{word_width, label_width};
 ghost use Rattle.labels.specs.Label.{mask_numbers, val_numbers, label_numbers};
 ghost use Rattle.labels.specs.Step.{small_word};
 
-use crate::{Label, Mask, Val};
+use crate::{Label, Val};
 use limits::layout::{
     LABEL_ARGUMENT, LABEL_CALL_DATA, LABEL_MASKED, LABEL_NONE, LABEL_PATH, LABEL_ZERO_TEST,
 };
@@ -35,16 +35,16 @@ fn put_two(s: &mut [u32], at: usize, a: u32, b: u32)
 }
 
 // Stores the nine numbers of a mask.
-fn put_mask(s: &mut [u32], at: usize, mask: Mask)
+fn put_mask(s: &mut [u32], at: usize, mask: Option<U256>)
     requires { at + 9 ≤ length s.old }
     ensures { s.new ≡ sets s.old at (mask_numbers mask) }
 {
     match mask {
-        Mask::Unmasked => {
+        None => {
             s[at] = 0;
             put_small(s, at + 1, 0);
         }
-        Mask::Masked(m) => {
+        Some(m) => {
             s[at] = 1;
             put_numbers(s, at + 1, m);
         }
@@ -58,8 +58,7 @@ fn put_val(s: &mut [u32], at: usize, kind: u32, val: Val)
 {
     put_two(s, at, kind, val.offset);
     put_two(s, at + LABEL_PATH, val.path, val.add_val);
-    let mask = val.and_mask;
-    put_mask(s, at + LABEL_MASKED, mask);
+    put_mask(s, at + LABEL_MASKED, val.and_mask);
 }
 
 // Stores the label at an index of s; all else keeps its value.
@@ -71,7 +70,7 @@ pub fn put_label(s: &mut [u32], at: usize, label: Label)
         offset: 0,
         path: 0,
         add_val: 0,
-        and_mask: Mask::Unmasked,
+        and_mask: None,
     };
     match label {
         Label::Unlabelled => put_val(s, at, LABEL_NONE, blank),

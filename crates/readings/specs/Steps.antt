@@ -1,10 +1,9 @@
 -- The steps of the bench readings as numbers: "Step (59): op, pc after the step, two operands as slots, pick, load
 -- flag, load label." A test over a step's numbers tells that they are u32 (`are_u32`).
-use Rattle.std.specs.Prelude.{ℕ, zero, suc, ◌^◌, ◌≡◌, refl, Bool, true, false, ◌&&◌, List, [], ◌∷◌, ◌++◌, T, ltb}
+use Rattle.std.specs.Prelude.{ℕ, zero, suc, ◌^◌, ◌≡◌, refl, Bool, true, false, ◌&&◌, List, [], ◌∷◌, ◌++◌, T, ltb, None}
 use Rattle.std.proofs.Common.{not-suc-le-zero, le_of_suc-le-suc, sym, subst, lit<}
 use Rattle.opcode.specs.Opcode.{MUL, CALLDATALOAD, MSTORE8}
 use Rattle.labels.specs.declared.Label.TheVariants.{Unlabelled, Arg}
-use Rattle.labels.specs.declared.Mask.TheVariants.{Unmasked}
 use Rattle.labels.specs.Label.{label_numbers}
 use Rattle.labels.specs.Step.{small_word}
 use Rattle.calls.specs.Fits.{AreU32}
@@ -17,7 +16,7 @@ unlabelled word = small_word word ++ label_numbers Unlabelled
 -- (offset o, record r, added a): the word 0 with an argument's label, unmasked
 abbrev pub argument : ℕ → ℕ → ℕ → List ℕ
 argument o r a =
-    small_word 0 ++ label_numbers (Arg (record { offset = o; path = r; add_val = a; and_mask = Unmasked }))
+    small_word 0 ++ label_numbers (Arg (record { offset = o; path = r; add_val = a; and_mask = None }))
 
 -- an opcode with its operands; pc 0, no pick, nothing loaded
 abbrev pub numbers : ℕ → List ℕ → List ℕ → List ℕ

@@ -2,27 +2,14 @@
 ghost use Rattle.std.specs.Prelude.{◌≡◌, ◌≤◌, length};
 ghost use Rattle.limits.specs.Layout.{slot_width};
 ghost use Rattle.labels.specs.Stack.{with_top_label, with_top_word, stack_ones};
-ghost use Rattle.analyze.specs.Plan.{loaded_arg, write_stack, write_memory};
+ghost use Rattle.analyze.specs.Plan.{write_stack, write_memory};
 ghost use Rattle.step.specs.Decide.{StackFits, MemoryFits};
 
 use crate::Ran;
-use analyze::{InMemory, OnStack};
+use analyze::{InMemory, OnStack, loaded_arg};
 use labels::{
-    Label, Mask, Val, memory_ones, put_pick_label, put_pick_one, put_top_label, put_top_word,
-    stack_ones,
+    Label, memory_ones, put_pick_label, put_pick_one, put_top_label, put_top_word, stack_ones,
 };
-
-// The label of an argument, nothing added and no mask.
-fn loaded_arg(offset: u32, path: u32) -> Label
-    ensures { result ≡ loaded_arg offset path }
-{
-    Label::Arg(Val {
-        offset,
-        path,
-        add_val: 0,
-        and_mask: Mask::Unmasked,
-    })
-}
 
 // What a labelled load leaves on top: the length of an array becomes 1.
 #[tactic(auto, unfolding(analyze::specs::Plan::write_stack))]
@@ -71,7 +58,8 @@ pub fn write_stack(stack: &mut [u32], write: OnStack, ran: Ran)
     }
 }
 
-// What a labelled load leaves in the entry that was picked.
+// What a labelled load leaves in the entry that was picked. It stores by other functions than `put_loaded`, so one for
+// both would take the two of them: no plainer.
 #[tactic(auto, unfolding(analyze::specs::Plan::write_memory))]
 fn put_picked(memory: &mut [u32], pick: u32, offset: u32, ran: Ran)
     requires { MemoryFits (InMemory.Loaded pick offset) memory.old }
