@@ -13,7 +13,6 @@ use Rattle.head.proofs.Asking.{sound_asked, refused_so}
 use Rattle.std.specs.Prelude.{Ok, Err}
 use Rattle.std.specs.declared.result.Result.{Result}
 use Rattle.step.specs.declared.Planned.{Planned}
-
 use Rattle.step.specs.Decide.{Accepts, Decides}
 use Rattle.step.specs.Call.{Lent, effect, questions, tests_of, Outcome}
 

@@ -2,6 +2,5 @@ pub mod Labelled
 pub mod Arriving
 pub mod Refusing
 pub mod Planning
-
 pub mod Outcomes
 pub mod Taking

@@ -15,7 +15,7 @@ run-requires-clause-room c =
     let f = c.run_first-path.new.facts in
     let third : Each (Reaches f.used) (c.args.plan.third ∷ []) = (reaches_more _ _ G.used _ c.requires.reach.third, tt) in
     let room : length (run_all (facts_of f) (c.args.plan.second ∷ c.args.plan.third ∷ [])) ≤ c.args.facts.now.records =
-        next_fits _ _ _ _ _ G.state c.requires.room in
+    next_fits _ _ _ _ _ G.state c.requires.room in
     let all : length (run_all (facts_of f) (c.args.plan.second ∷ c.args.plan.third ∷ [])) ≤ f.records =
-        (let r = G.same.records in omega arith) in
+    (let r = G.same.records in omega arith) in
     first_fits _ _ _ _ _ third all
