@@ -2,6 +2,7 @@ pub mod Frame
 pub mod Walk
 pub mod RunLaws
 pub mod Tail
+pub mod Chaining
 pub mod Spotting
 mod Growth
 mod Depths

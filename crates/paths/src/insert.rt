@@ -1,7 +1,6 @@
 // Adding a path.
 ghost use Rattle.std.specs.Prelude.{◌≡◌, ◌+◌, ◌<◌, ◌≤◌, [], ◌∷◌, ◌++◌, IfSome};
 ghost use Rattle.std.specs.Option.{unwrap_or};
-ghost use Rattle.limits.specs.Limits.{records_max};
 ghost use Rattle.facts.specs.State.{nodes, bare};
 ghost use Rattle.paths.specs.Shape.{Shaped};
 ghost use Rattle.paths.specs.Find.{find_in};
@@ -22,7 +21,7 @@ pub struct Spot {
 // Adds a child with that key to parent at its place, as the next record, and returns its number.
 fn link_in(table: &mut [u32], n: u32, used: u32, parent: u32, key: u32, spot: Spot) -> u32
     requires shaped { Shaped table.old used n }
-    requires le_parent { (1 ≤ parent) × (parent ≤ used) × (used < n) × (n ≤ records_max) }
+    requires le_parent { (1 ≤ parent) × (parent ≤ used) × (used < n) }
     requires key_value { find_in (nodes table.old used) parent key ≡ 0 }
     requires place { Place table.old used parent key spot.prev spot.next }
     ensures value { result ≡ used + 1 }

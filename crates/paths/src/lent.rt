@@ -1,6 +1,4 @@
 // The facts of a lent table.
-ghost use Rattle.std.specs.Prelude.{◌≤◌};
-ghost use Rattle.limits.specs.Limits.{records_max};
 ghost use Rattle.paths.specs.Shape.{Shaped};
 
 // The table holds the facts in its first `used` records, of `records` in all.
@@ -10,5 +8,4 @@ pub struct Facts<'a> {
     pub records: u32,
     pub used: u32,
     ghost shaped: { Shaped table.now used records },
-    ghost most: { records ≤ records_max },
 }

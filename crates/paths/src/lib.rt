@@ -1,6 +1,7 @@
 // The paths of a table: looked up, made, and made seen. specs/ has what that does to the facts that a table stands for.
 #![tactic(auto)]
 
+mod children;
 mod depth;
 mod find;
 mod insert;
@@ -10,5 +11,6 @@ mod near;
 mod node;
 mod seen;
 
+pub use children::Children;
 pub use insert::Spot;
 pub use lent::Facts;

@@ -1,0 +1,52 @@
+// The children of a path.
+ghost use Rattle.std.specs.Prelude.{◌≡◌, ◌≤◌, ◌≢◌};
+ghost use Rattle.facts.specs.Links.{Kid};
+
+use crate::Facts;
+
+// Gives the children of a path, seen or not, by rising key. next is 0 behind the last.
+#[derive(Drop)]
+pub struct Children<'f, 'a> {
+    facts: &'f Facts<'a>,
+    parent: u32,
+    next: u32,
+    ghost range: { (1 ≤ parent) × (parent ≤ facts.now.used) },
+    ghost kid: { (next ≢ 0) → Kid facts.now.table.now facts.now.used parent next },
+}
+
+impl Facts<'_> {
+    ghost use Rattle.facts.specs.State.{kids_in};
+    ghost use Rattle.paths.specs.Lent.{facts_of};
+    ghost use Rattle.paths.specs.Chain.{children_left};
+
+    pub fn children(&self, r: u32) -> Children<'_, '_>
+        requires { (1 ≤ r) × (r ≤ self.now.used) }
+        ensures { children_left result ≡ kids_in (facts_of self.now) r }
+    {
+        Children {
+            facts: self,
+            parent: r,
+            next: self.child(r),
+        }
+    }
+}
+
+impl Iterator for Children<'_, '_> {
+    ghost use Rattle.std.specs.Iterator.{YieldsFirst, item_count};
+    ghost use Rattle.paths.specs.Chain.{children_left};
+
+    type Item = u32;
+
+    ghost next_gives = { YieldsFirst children_left };
+
+    ghost remaining = { item_count children_left };
+
+    fn next(&mut self) -> Option<u32> {
+        if self.next == 0 {
+            return None;
+        }
+        let c = self.next;
+        self.next = self.facts.next(c);
+        Some(c)
+    }
+}
