@@ -1,5 +1,6 @@
 // The arm of an opcode, and the plan of a step.
-ghost use Rattle.std.specs.Prelude.{◌≡◌};
+ghost use Rattle.std.specs.Prelude.{◌≡◌, ◌≤◌};
+ghost use Rattle.limits.specs.Limits.{records_max};
 ghost use Rattle.paths.specs.Lent.{facts_of};
 ghost use Rattle.analyze.specs.Arms.{arm};
 ghost use Rattle.analyze.specs.Analyze.{plan_of};
@@ -22,7 +23,8 @@ use paths::Facts;
 // The arm of the step's opcode.
 #[tactic(auto, unfolding(analyze::specs::Arms::arm_by, opcode::specs::Lists::listed, opcode::specs::Lists::calls))]
 fn arm(facts: &Facts, active: bool, code: &[u8], step: Step) -> Plan
-    requires { StepReaches facts.now.used step }
+    requires reaches { StepReaches facts.now.used step }
+    requires small { facts.now.records ≤ records_max }
     ensures { result ≡ arm (facts_of facts.now) active code.now step }
 {
     let op = step.op;
@@ -49,7 +51,8 @@ fn arm(facts: &Facts, active: bool, code: &[u8], step: Step) -> Plan
 // What a step does behind its first phase: the range rule's plan if it applies, else its arm's.
 #[tactic(auto, unfolding(analyze::specs::Analyze::plan_of, analyze::specs::Phases::active_after))]
 pub fn plan_of(facts: &Facts, active: bool, code: &[u8], step: Step) -> Plan
-    requires { StepReaches facts.now.used step }
+    requires reaches { StepReaches facts.now.used step }
+    requires small { facts.now.records ≤ records_max }
     ensures { result ≡ plan_of (facts_of facts.now) active code.now step }
 {
     if range_rule(active, code, step) {

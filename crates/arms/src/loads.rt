@@ -1,5 +1,6 @@
 // CALLDATALOAD and CALLDATACOPY.
-ghost use Rattle.std.specs.Prelude.{◌≡◌, true};
+ghost use Rattle.std.specs.Prelude.{◌≡◌, ◌≤◌, true};
+ghost use Rattle.limits.specs.Limits.{records_max};
 ghost use Rattle.word.specs.Value.{value_of};
 ghost use Rattle.paths.specs.Lent.{facts_of};
 ghost use Rattle.operations.specs.Asks.{IsUsed};
@@ -33,6 +34,7 @@ fn is_whole_word(added: u32) -> bool
 #[tactic(auto, unfolding(analyze::specs::Load::new_offset))]
 fn new_offset(facts: &Facts, val: Val) -> u32
     requires ready { IsUsed facts.now.used val.path }
+    requires small { facts.now.records ≤ records_max }
     requires add_val_value { is_whole_word val.add_val ≡ true }
     ensures { result ≡ new_offset (facts_of facts.now) val }
 {
@@ -74,7 +76,8 @@ fn followed(step: Step, val: Val, offset: u32) -> Plan
 
 #[tactic(auto, unfolding(analyze::specs::Load::labelled_load))]
 fn labelled_load(facts: &Facts, step: Step, val: Val) -> Plan
-    requires { IsUsed facts.now.used val.path }
+    requires ready { IsUsed facts.now.used val.path }
+    requires small { facts.now.records ≤ records_max }
     ensures { result ≡ labelled_load (facts_of facts.now) step val }
 {
     if is_whole_word(val.add_val) {
@@ -110,7 +113,8 @@ fn unlabelled_load(step: Step, word: U256) -> Plan
 
 #[tactic(auto, unfolding(analyze::specs::Load::load))]
 pub fn load(facts: &Facts, step: Step) -> Plan
-    requires { StepReaches facts.now.used step }
+    requires reaches { StepReaches facts.now.used step }
+    requires small { facts.now.records ≤ records_max }
     ensures { result ≡ load (facts_of facts.now) step }
 {
     match step.first.label {

@@ -7,14 +7,10 @@ use mathlib.Core.List.{List, [], ◌∷◌}
 use native.Mathlib.Omega.{arith}
 use lib.Dec.{eqb}
 use lib.ListN.{length}
-use Rattle.facts.specs.Table.{child_of, next_of}
 use Rattle.facts.specs.Links.{In}
 use Rattle.facts.specs.State.{Node, nodes, node_of, kids_in}
-use Rattle.facts.specs.Linked.{kids_of}
 use Rattle.facts.proofs.Encode.{kids_nodes}
 use Rattle.facts.proofs.Kids.{kids_in_lem}
-use Rattle.paths.specs.Shape.{Shaped}
-use Rattle.paths.proofs.Tail.{Tail, More, tail_more, tail_none, tail_start}
 use Rattle.kinds.specs.Kinds.{dynamic_below, has_dynamic}
 use Rattle.list.specs.Seen.{seen_ones}
 use Rattle.closing.specs.declared.Dynamics.{Dynamics}
@@ -59,46 +55,40 @@ resume_second Nothing c rs n = absurd (n refl)
 resume_second (One r) c rs n = refl
 resume_second met.More c rs n = refl
 
--- the walk of the root's chain: what was met and what is left say it all
-pub record Seeking (t : List ℕ) (u : ℕ) (seen : Dynamics) (c : ℕ) : Type 0 where
-  pub ns : List ℕ
-  pub tail : Tail t u 1 c ns
-  pub same : resume seen (dynamic_ones (nodes t u) ns) ≡ summary (dynamic_args (nodes t u))
+-- a walk of the root's children has ns before it: what was met and what is left say it all
+pub record Seeking (s : List Node) (seen : Dynamics) (ns : List ℕ) : Type 0 where
+  pub kids : (m : ℕ) → In m ns → In m (kids_in s 1)
+  pub same : resume seen (dynamic_ones s ns) ≡ summary (dynamic_args s)
 
-module _ {t : List ℕ} {u N : ℕ} (S : Shaped t u N) where
-  pub seeking_start : {c : ℕ} → c ≡ child_of t 1 → Seeking t u Nothing c
-  seeking_start {c} e = record {
-    ns = kids_of t u 1;
-    tail = tail_start t u 1 S.linked (omega arith) S.linked.some c e;
-    same = ap (λ (ms : List ℕ). summary (dynamic_ones (nodes t u) ms)) (sym (kids_nodes t u 1)) ∙ ap summary (sym (dynamic_seen (nodes t u) (kids_in (nodes t u) 1)));
+pub seeking_start : (s : List Node) (ns : List ℕ) → ns ≡ kids_in s 1 → Seeking s Nothing ns
+seeking_start s ns e = rw e (record { kids = λ m i. i; same = ap summary (sym (dynamic_seen s (kids_in s 1))) })
+
+module _ (s : List Node) (seen : Dynamics) (ms ns : List ℕ) (c : ℕ) (I : Seeking s seen ms) (is : ms ≡ c ∷ ns) where
+  left : resume seen (cond (has_dynamic s c) (c ∷ dynamic_ones s ns) (dynamic_ones s ns)) ≡ summary (dynamic_args s)
+  unfolding dynamic_ones
+  left = sym (ap (λ (l : List ℕ). resume seen (dynamic_ones s l)) is) ∙ I.same
+
+  kids : (m : ℕ) → In m ns → In m (kids_in s 1)
+  kids m i = I.kids m (rw is (inr i))
+
+  pub seeking_kid : In c (kids_in s 1)
+  seeking_kid = I.kids c (rw is (inl refl))
+
+  pub seeking_second : has_dynamic s c ≡ true → (seen ≡ Nothing → ⊥) → met.More ≡ summary (dynamic_args s)
+  seeking_second h k = sym (resume_second seen c (dynamic_ones s ns) k) ∙ (rw h at left)
+
+  pub seeking_first : has_dynamic s c ≡ true → seen ≡ Nothing → Seeking s (One c) ns
+  seeking_first h k = record {
+    kids = kids;
+    same = resume_first c (dynamic_ones s ns) ∙ ap (λ (m : Dynamics). resume m (c ∷ dynamic_ones s ns)) (sym k) ∙ (rw h at left);
   }
 
-  module _ {seen : Dynamics} {c : ℕ} (I : Seeking t u seen c) (n : c ≡ 0 → ⊥) where
-    split : More t u 1 c I.ns
-    split = tail_more t u 1 c I.ns I.tail n
+  pub seeking_next : has_dynamic s c ≡ false → Seeking s seen ns
+  seeking_next h = record { kids = kids; same = rw h at left }
 
-    left : resume seen (cond (has_dynamic (nodes t u) c) (c ∷ dynamic_ones (nodes t u) split.rest) (dynamic_ones (nodes t u) split.rest)) ≡ summary (dynamic_args (nodes t u))
-    unfolding dynamic_ones
-    left = sym (ap (λ (ms : List ℕ). resume seen (dynamic_ones (nodes t u) ms)) split.is) ∙ I.same
-
-    pub seeking_second : has_dynamic (nodes t u) c ≡ true → (seen ≡ Nothing → ⊥) → met.More ≡ summary (dynamic_args (nodes t u))
-    seeking_second h k = sym (resume_second seen c (dynamic_ones (nodes t u) split.rest) k) ∙ (rw h at left)
-
-    pub seeking_first : has_dynamic (nodes t u) c ≡ true → seen ≡ Nothing → {c' : ℕ} → c' ≡ next_of t c → Seeking t u (One c) c'
-    seeking_first h k q = record {
-      ns = split.rest;
-      tail = rw q split.tail;
-      same =
-          resume_first c (dynamic_ones (nodes t u) split.rest) ∙ ap (λ (m : Dynamics). resume m (c ∷ dynamic_ones (nodes t u) split.rest)) (sym k)
-          ∙ (rw h at left);
-    }
-
-    pub seeking_next : has_dynamic (nodes t u) c ≡ false → {c' : ℕ} → c' ≡ next_of t c → Seeking t u seen c'
-    seeking_next h q = record { ns = split.rest; tail = rw q split.tail; same = rw h at left }
-
-  pub seeking_done : {seen : Dynamics} {c : ℕ} → Seeking t u seen c → c ≡ 0 → seen ≡ summary (dynamic_args (nodes t u))
-  unfolding dynamic_ones
-  seeking_done {seen} {c} I z = sym (resume_none seen) ∙ (rw (tail_none t u 1 c I.ns I.tail z) at I.same)
+pub seeking_done : (s : List Node) (seen : Dynamics) (ms : List ℕ) → Seeking s seen ms → ms ≡ [] → seen ≡ summary (dynamic_args s)
+unfolding dynamic_ones
+seeking_done s seen ms I z = sym (resume_none seen) ∙ (rw z at I.same)
 
 -- the only one that was met
 first_of : Dynamics → ℕ

@@ -34,15 +34,13 @@ fn dynamic_args(facts: &Facts) -> Dynamics
     ensures { result ≡ summary (dynamic_args (facts_of facts.now)) }
 {
     let mut met = Dynamics::Nothing;
-    let mut child = facts.child(1);
-    while child != 0 {
+    for child in facts.children(1) {
         if has_dynamic(facts, child) {
             met = match met {
                 Dynamics::Nothing => Dynamics::One(child),
                 _ => return Dynamics::More,
             };
         }
-        child = facts.next(child);
     }
     met
 }

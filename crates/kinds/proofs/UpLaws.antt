@@ -1,75 +1,64 @@
 -- Counting the arrays of a path, one record a turn.
-use Prim.Native.Nat.{ℕ, zero, suc, ◌+◌, ◌≤◌, ◌<◌}
-use mathlib.Core.Path.{◌≡◌, refl, sym, ap, ◌∙◌}
-use mathlib.Core.Bool.{cond}
-use mathlib.Core.Logic.{⊎_elim}
-use mathlib.Core.List.{List}
-use native.Mathlib.Omega.{arith}
-use native.Mathlib.Nat.{eq-or-lt_of_le}
-use lib.Dec.{eqb}
+use Rattle.std.proofs.Common.{◌≡◌, ℕ, zero, suc, ◌+◌, ◌≤◌, Bool, true, false, cond, List, [], ◌∷◌, length, inl, inr, refl, ap, arith, eqb}
 use borrow.Author.Tests.{eq-eqb, ne_eqb}
 use Rattle.limits.specs.Limits.{kind_array}
-use Rattle.facts.specs.Table.{parent_of}
-use Rattle.facts.specs.State.{Node, nodes, node_of}
-use Rattle.facts.proofs.Encode.{nodes_get}
-use Rattle.paths.specs.Shape.{Shaped}
+use Rattle.facts.specs.Links.{In}
+use Rattle.facts.specs.State.{Node, node_of}
+use Rattle.paths.specs.Chain.{ups, upward}
+use Rattle.paths.proofs.Climbing.{ups_length}
 use Rattle.kinds.specs.Kinds.{arrays_up, arrays_in_path}
 
--- the arrays met and those left at c come to all of them; each turn goes to a lower number, so there are at most `used`
-pub record Upward (t : List ℕ) (used N r arrays c : ℕ) : Type 0 where
-  pub shaped : Shaped t used N
-  pub low : arrays + c ≤ used
-  pub turns : ℕ
-  pub enough : c ≤ turns
-  pub same : arrays + arrays_up turns (nodes t used) c ≡ arrays_in_path (nodes t used) r
+-- how many of them are arrays
+pub arrays_of : List Node → List ℕ → ℕ
+arrays_of s [] = 0
+arrays_of s (r ∷ rs) = cond (eqb (node_of s r).kind kind_array) 1 0 + arrays_of s rs
 
-pub up_start : (t : List ℕ) (used N r : ℕ) → Shaped t used N → r ≤ used → Upward t used N r 0 r
+arrays_ups : (n : ℕ) (s : List Node) (r : ℕ) → arrays_of s (ups n s r) ≡ arrays_up n s r
+unfolding arrays_of ups arrays_up
+arrays_ups zero s r = refl
+arrays_ups (suc n) s r = go (eqb r 0) (arrays_ups n s (node_of s r).parent)
+  where
+    go : (b : Bool) → arrays_of s (ups n s (node_of s r).parent) ≡ arrays_up n s (node_of s r).parent
+        → arrays_of s (cond b [] (r ∷ ups n s (node_of s r).parent)) ≡ cond b 0 (cond (eqb (node_of s r).kind kind_array) 1 0 + arrays_up n s (node_of s r).parent)
+    go true e = refl
+    go false e = ap (λ (x : ℕ). cond (eqb (node_of s r).kind kind_array) 1 0 + x) e
+
+-- the arrays met and those of the records ms that are left come to all of them
+pub record Counting (s : List Node) (r arrays : ℕ) (ms : List ℕ) : Type 0 where
+  pub members : (m : ℕ) → In m ms → In m (upward s r)
+  pub fits : arrays + length ms ≤ r
+  pub same : arrays + arrays_of s ms ≡ arrays_in_path s r
+
+pub counting_start : (s : List Node) (r : ℕ) (ms : List ℕ) → ms ≡ upward s r → Counting s r 0 ms
 unfolding arrays_in_path
-up_start t used N r S h = record { shaped = S; low = omega arith; turns = r; enough = omega arith; same = omega arith }
+counting_start s r ms e =
+    let l = ups_length r s r in
+    let a = arrays_ups r s r in
+    rw e (record { members = λ m i. i; fits = omega arith; same = omega arith })
 
-up_turn : (m : ℕ) (s : List Node) (c : ℕ) → (c ≡ 0 → ⊥)
-    → arrays_up (suc m) s c ≡ cond (eqb (node_of s c).kind kind_array) 1 0 + arrays_up m s (node_of s c).parent
-unfolding arrays_up
-up_turn m s c n = rw (ne_eqb c 0 n) refl
+module _ (s : List Node) (r arrays : ℕ) (ms ns : List ℕ) (c : ℕ) (I : Counting s r arrays ms) (is : ms ≡ c ∷ ns) where
+  pub counting_in : In c (upward s r)
+  counting_in = I.members c (rw is (inl refl))
 
-up_end : (m : ℕ) (s : List Node) (c : ℕ) → c ≡ 0 → arrays_up m s c ≡ 0
-unfolding arrays_up
-up_end zero s c z = refl
-up_end (suc m) s c z = rw (eq-eqb c 0 z) refl
+  pub counting_fits : arrays + 1 ≤ r
+  counting_fits = let l = ap length is in let f = I.fits in omega arith
 
-module _ (t : List ℕ) (used N r arrays c : ℕ) (W : Upward t used N r arrays c) (n : c ≡ 0 → ⊥) where
-  -- a parent has a lower number
-  pub up_less : (c' : ℕ) → c' ≡ (node_of (nodes t used) c).parent → c' < c
-  up_less c' same = let l = W.low in
-      let e : c' ≡ parent_of t c = same ∙ ap (λ (x : Node). x.parent) (nodes_get t used c (omega arith) (omega arith)) in ⊎_elim
-      (λ (q : 1 ≡ c). let z = ap (λ (x : ℕ). parent_of t x) q in let p = W.shaped.root_parent in omega arith)
-      (λ (h : 1 < c). let p = (W.shaped.linked.up c h (omega arith)).1 in omega arith)
-      (eq-or-lt_of_le (let z : 1 ≤ c = omega arith in z))
+  step : (one : ℕ) → one ≤ 1 → cond (eqb (node_of s c).kind kind_array) 1 0 ≡ one → Counting s r (arrays + one) ns
+  unfolding arrays_of
+  step one o q = record {
+    members = λ m i. I.members m (rw is (inr i));
+    fits = let l = ap length is in let f = I.fits in omega arith;
+    same = let a = ap (arrays_of s) is in let b = I.same in omega arith;
+  }
 
-  -- one turn, that adds one for an array
-  step : (one c' : ℕ) → one ≤ 1 → cond (eqb (node_of (nodes t used) c).kind kind_array) 1 0 ≡ one → c' ≡ (node_of (nodes t used) c).parent → Upward t used N r (arrays + one) c'
-  step one c' o q e = go W.turns W.enough W.same
-    where
-      go : (m : ℕ) → c ≤ m → arrays + arrays_up m (nodes t used) c ≡ arrays_in_path (nodes t used) r → Upward t used N r (arrays + one) c'
-      go zero h w = absurd (n (omega arith))
-      go (suc m) h w = record {
-        shaped = W.shaped;
-        low = let l = W.low in let x = up_less c' e in omega arith;
-        turns = m;
-        enough = let x = up_less c' e in omega arith;
-        same =
-            let a = up_turn m (nodes t used) c n in
-            let b = ap (λ (x : ℕ). arrays_up m (nodes t used) x) (sym e) in
-            omega arith;
-      }
+  pub counting_array : (node_of s c).kind ≡ kind_array → Counting s r (arrays + 1) ns
+  counting_array a = step 1 (omega arith) (rw (eq-eqb (node_of s c).kind kind_array a) refl)
 
-  pub up_array : (arrays' c' : ℕ) → (node_of (nodes t used) c).kind ≡ kind_array → arrays' ≡ arrays + 1 → c' ≡ (node_of (nodes t used) c).parent → Upward t used N r arrays' c'
-  up_array arrays' c' a q h = rw q (step 1 c' (omega arith) (rw (eq-eqb (node_of (nodes t used) c).kind kind_array a) refl) h)
+  pub counting_other : ((node_of s c).kind ≡ kind_array → ⊥) → Counting s r arrays ns
+  counting_other a =
+      let z : arrays ≡ arrays + 0 = omega arith in
+      rw z (step 0 (omega arith) (rw (ne_eqb (node_of s c).kind kind_array a) refl))
 
-  pub up_other : (arrays' c' : ℕ) → ((node_of (nodes t used) c).kind ≡ kind_array → ⊥) → arrays' ≡ arrays → c' ≡ (node_of (nodes t used) c).parent → Upward t used N r arrays' c'
-  up_other arrays' c' a q h =
-      let z : arrays' ≡ arrays + 0 = omega arith in
-      rw z (step 0 c' (omega arith) (rw (ne_eqb (node_of (nodes t used) c).kind kind_array a) refl) h)
-
-pub up_done : (t : List ℕ) (used N r arrays c : ℕ) → Upward t used N r arrays c → c ≡ 0 → arrays ≡ arrays_in_path (nodes t used) r
-up_done t used N r arrays c W z = let a = up_end W.turns (nodes t used) c z in let b = W.same in omega arith
+pub counting_done : (s : List Node) (r arrays : ℕ) (ms : List ℕ) → Counting s r arrays ms → ms ≡ [] → arrays ≡ arrays_in_path s r
+unfolding arrays_of
+counting_done s r arrays ms I e = let a = ap (arrays_of s) e in let b = I.same in omega arith

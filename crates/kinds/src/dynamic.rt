@@ -16,12 +16,10 @@ pub fn has_dynamic(facts: &Facts, r: u32) -> bool
     if facts.kind(r) != 0 {
         return true;
     }
-    let mut c = facts.child(r);
-    while c != 0 {
+    for c in facts.children(r) {
         if has_dynamic(facts, c) {
             return true;
         }
-        c = facts.next(c);
     }
     false
 }

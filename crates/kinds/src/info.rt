@@ -69,12 +69,10 @@ pub fn arrays_in_path(facts: &Facts, r: u32) -> u32
     ensures { result ≡ arrays_in_path (facts_of facts.now) r }
 {
     let mut arrays: u32 = 0;
-    let mut c = r;
-    while c != 0 {
+    for c in facts.upward(r) {
         if facts.kind(c) == KIND_ARRAY {
             arrays += 1;
         }
-        c = facts.parent(c);
     }
     arrays
 }

@@ -1,20 +1,21 @@
 -- A fact's seen children, one record of the chain a turn.
-use Prim.Native.Nat.{ℕ, zero, suc, ◌+◌, ◌/◌, ◌≤◌, ◌<◌, ◌^◌, max}
+use Prim.Native.Nat.{ℕ, zero, suc, ◌+◌, ◌≤◌, ◌<◌, ◌^◌}
 use mathlib.Core.Path.{◌≡◌, refl, sym, ap, ◌∙◌}
 use mathlib.Core.Bool.{Bool, true, false, ◌&&◌, cond}
+use mathlib.Core.Logic.{inl, inr}
 use mathlib.Core.List.{List, [], ◌∷◌}
 use native.Mathlib.Omega.{arith}
 use lib.Dec.{eqb, ltb}
 use lib.ListN.{length}
 use borrow.Author.Tests.{eq-eqb, ne_eqb}
-use Rattle.limits.specs.Limits.{word_bytes}
-use Rattle.facts.specs.Table.{key_of, child_of, next_of, seen_of, kind_of, count_of}
+use Rattle.facts.specs.Table.{child_of, next_of}
+use Rattle.facts.specs.Links.{In}
 use Rattle.facts.specs.State.{Node, nodes, node_of, ins, kids, kids_in}
 use Rattle.facts.specs.Linked.{kids_of}
-use Rattle.facts.proofs.Encode.{length_nodes, nodes_get, kids_nodes}
+use Rattle.facts.proofs.Encode.{length_nodes, kids_nodes}
 use Rattle.paths.specs.Shape.{Shaped}
-use Rattle.paths.proofs.Tail.{Tail, More, tail_more, tail_none, tail_start, tail_kid}
-use Rattle.list.specs.Seen.{seen_ones, children_in, is_empty, is_lone_kindless, last_from, last_key, last_word}
+use Rattle.paths.proofs.Tail.{Tail, More, tail_more, tail_none, tail_start}
+use Rattle.list.specs.Seen.{seen_ones, children_in, is_empty, is_lone_kindless, last_from, last_key}
 use Rattle.list.specs.Looks.{kind_from, Looked}
 use Rattle.list.specs.declared.Children.{Children}
 
@@ -140,15 +141,27 @@ lone_is s [] = refl
 lone_is s (m ∷ []) = refl
 lone_is s (m ∷ q ∷ ms) = sym (rw (ne_eqb (suc (suc (length ms))) 1 (λ e. omega arith)) refl)
 
--- the first seen child decides
-module _ (t : List ℕ) (u r c : ℕ) (I : Looking t u r 0 0 0 c) where
-  pub childless_no : (n : c ≡ 0 → ⊥) → (node_of (nodes t u) c).seen ≡ 1 → false ≡ is_empty (children_in (nodes t u) r)
-  childless_no n o =
-      let J = looking_seen t u r 0 0 0 c I n 1 _ _ (next_of t c) o (omega arith) refl refl refl in
-      let k = J.counted in
-      sym (empty_is (children_in (nodes t u) r) ∙ ne_eqb (length (children_in (nodes t u) r)) 0 (λ z. omega arith))
+-- a walk of r's children has ns before it, and met no seen one
+pub record Unmet (s : List Node) (r : ℕ) (ns : List ℕ) : Type 0 where
+  pub kids : (m : ℕ) → In m ns → In m (kids_in s r)
+  pub same : seen_ones s ns ≡ children_in s r
 
-  pub childless_yes : c ≡ 0 → true ≡ is_empty (children_in (nodes t u) r)
-  childless_yes z =
-      let D = looking_done t u r 0 0 0 c I (record { count = 0; last_key = 0; last_kind = 0 }) refl refl refl z in
-      sym (empty_is (children_in (nodes t u) r) ∙ eq-eqb (length (children_in (nodes t u) r)) 0 (sym D.count))
+pub unmet_start : (s : List Node) (r : ℕ) (ns : List ℕ) → ns ≡ kids_in s r → Unmet s r ns
+unmet_start s r ns e = rw e (record { kids = λ m i. i; same = refl })
+
+module _ (s : List Node) (r : ℕ) (ms ns : List ℕ) (c : ℕ) (I : Unmet s r ms) (is : ms ≡ c ∷ ns) where
+  pub unmet_kid : In c (kids_in s r)
+  unmet_kid = I.kids c (rw is (inl refl))
+
+  pub unmet_met : (node_of s c).seen ≡ 1 → false ≡ is_empty (children_in s r)
+  unmet_met o = ap is_empty (sym (seen_yes s c ns o) ∙ sym (ap (seen_ones s) is) ∙ I.same)
+
+  pub unmet_next : ((node_of s c).seen ≡ 1 → ⊥) → Unmet s r ns
+  unmet_next o = record {
+    kids = λ m i. I.kids m (rw is (inr i));
+    same = sym (seen_no s c ns o) ∙ sym (ap (seen_ones s) is) ∙ I.same;
+  }
+
+pub unmet_done : (s : List Node) (r : ℕ) (ms : List ℕ) → Unmet s r ms → ms ≡ [] → true ≡ is_empty (children_in s r)
+unfolding seen_ones
+unmet_done s r ms I e = ap is_empty (sym (ap (seen_ones s) e) ∙ I.same)

@@ -46,12 +46,10 @@ pub fn is_childless(facts: &Facts, r: u32) -> bool
     requires { (1 ≤ r) × (r ≤ facts.now.used) }
     ensures { result ≡ is_empty (children_in (facts_of facts.now) r) }
 {
-    let mut child = facts.child(r);
-    while child != 0 {
+    for child in facts.children(r) {
         if facts.is_seen(child) {
             return false;
         }
-        child = facts.next(child);
     }
     true
 }

@@ -1,14 +1,12 @@
 -- Question 8's count: what its functions ask for, and what they tell.
 use Prim.Native.Nat.{ℕ, ◌+◌, ◌-◌, ◌≤◌}
-use mathlib.Core.Path.{◌≡◌, refl, sym, ap, subst, ◌∙◌}
+use mathlib.Core.Path.{◌≡◌, refl, sym, ap, ◌∙◌}
 use mathlib.Core.Bool.{Bool, true, false, true≢false, cond, ◌||◌}
 use mathlib.Core.List.{List, [], ◌∷◌}
 use native.Mathlib.Omega.{arith}
 use lib.Dec.{eqb, leb}
 use lib.ListN.{length}
 use borrow.Author.Tests.{eqb-true, eqb-false, le-leb, leb-true, leb-false, lt-leb}
-use Rattle.facts.specs.Table.{parent_of}
-use Rattle.facts.specs.Linked.{Linked}
 use Rattle.facts.specs.State.{Node, nodes}
 use Rattle.facts.proofs.Encode.{length_nodes}
 use Rattle.paths.specs.Adds.{missing}
@@ -16,8 +14,7 @@ use Rattle.paths.specs.Shape.{Shaped}
 use Rattle.operations.specs.declared.FullPath.{FullPath}
 use Rattle.operations.specs.declared.Operation.{Operation}
 use Rattle.operations.specs.Run.{run_all}
-use Rattle.operations.specs.Asks.{Reaches, PathReaches, makes, same, lacks}
-use Rattle.operations.proofs.Changes.{makes_reaches}
+use Rattle.operations.specs.Asks.{Reaches, makes, same, lacks}
 use Rattle.operations.proofs.Sizes.{lacks_none, lacks_some, lacks_most, added_by, three_size}
 
 -- one path, looked up unless it is counted or there is none

@@ -70,6 +70,6 @@ module _ (t : List ℕ) where
         let R = kids_rising t p u up u (omega arith) in
         rw (kids_nodes t u p) (rw e (from_next 0 (child_of t p) (kids_of t u p) c R (chain_kids t u p L p1 pu) (in_kids t p u c K)))
 
-    -- a record that is left is a child
-    pub left_kid : (m : ℕ) → In m (kids_in (nodes t u) p) → Kid t u p m
-    left_kid m i = kids_in_lem t p u m (rw (kids_nodes t u p) at i)
+  -- a record of a chain is a child
+  pub left_kid : (u p m : ℕ) → In m (kids_in (nodes t u) p) → Kid t u p m
+  left_kid u p m i = kids_in_lem t p u m (rw (kids_nodes t u p) at i)

@@ -3,9 +3,9 @@ pub mod Walk
 pub mod RunLaws
 pub mod Tail
 pub mod Chaining
+pub mod Climbing
 pub mod Spotting
 mod Growth
-mod Depths
 pub mod Finds
 mod Seens
 pub mod Kept

@@ -2,7 +2,6 @@
 ghost use Rattle.std.specs.Prelude.{◌≡◌, ◌≤◌};
 
 use crate::Facts;
-use limits::fields::PARENT;
 
 impl Facts<'_> {
     ghost use Rattle.paths.specs.Depth.{depth_of};
@@ -13,12 +12,6 @@ impl Facts<'_> {
         requires { (1 ≤ r) × (r ≤ self.now.used) }
         ensures { result ≡ depth_of (facts_of self.now) r }
     {
-        let mut depth: u32 = 0;
-        let mut c = r;
-        while 1 < c {
-            c = self.field(c, PARENT);
-            depth += 1;
-        }
-        depth
+        self.upward(r).count() as u32 - 1
     }
 }

@@ -10,7 +10,9 @@ mod make;
 mod near;
 mod node;
 mod seen;
+mod upward;
 
 pub use children::Children;
 pub use insert::Spot;
 pub use lent::Facts;
+pub use upward::Upward;

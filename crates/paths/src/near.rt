@@ -80,10 +80,8 @@ impl Facts<'_> {
             child: prev,
             low: 0,
         };
-        let mut r = self.used;
-        while 1 < r {
+        for r in (2..=self.used).rev() {
             near = self.nearer(parent, key, near, r);
-            r -= 1;
         }
         near.child
     }

@@ -1,11 +1,10 @@
 -- A step that has passed questions 1 to 7: what its plan asks for, and question 8.
-use Prim.Native.Nat.{ℕ, ◌≤◌}
+use Prim.Native.Nat.{ℕ}
 use mathlib.Core.Path.{◌≡◌, refl, sym, ap, subst, ◌∙◌}
 use mathlib.Core.Bool.{Bool, true, false, not, ◌&&◌}
 use mathlib.Core.List.{List}
 use lib.Dec.{leb}
-use lib.ListN.{length, get_or}
-use Rattle.limits.specs.Layout.{step_width, step_op}
+use lib.ListN.{length}
 use Rattle.facts.specs.State.{Node, nodes}
 use Rattle.facts.proofs.Encode.{length_nodes}
 use Rattle.paths.specs.Shape.{Shaped}
@@ -32,7 +31,6 @@ use Rattle.step.specs.Questions.{room_there, step_tests}
 use Rattle.step.specs.Call.{Lent, lend, machine_of, is_active, Outcome}
 use Rattle.step.specs.Decide.{Passed, Accepts}
 use Rattle.step.proofs.Labelled.{step_reaches}
-use Rattle.step.proofs.Refusing.{fit_width, fit_op}
 use Rattle.step.proofs.Arriving.{refused_by}
 
 module _ (N : ℕ) (head : Head) (table stack memory bytes x : List ℕ) (P : Passed N (lend (held head table) stack memory) bytes x) where

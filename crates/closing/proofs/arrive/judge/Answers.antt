@@ -1,6 +1,6 @@
 use Rattle.std.proofs.Common.{arith, refl, rules}
 use Rattle.paths.proofs.Frame.{sound_shaped}
-use Rattle.head.proofs.Asking.{admitted_count, admitted_sound}
+use Rattle.head.proofs.Asking.{admitted_sound}
 use Rattle.closing.specs.Words.{hand}
 use Rattle.closing.proofs.Arriving.{not_admitted}
 use Rattle.closing.proofs.JudgeLaws.{long_code, short_types, no_room, room_left, sound_filled, answered}
@@ -17,9 +17,6 @@ returns-then-types-lt-TYPES_ROOM c = short_types _ _ _ _ (hand c.args.code.now c
 
 pub invariant_of-facts-clause-shaped : goal.invariant_of-facts-clause-shaped
 invariant_of-facts-clause-shaped c = sound_shaped _ _ _ (admitted_sound _ _ c.in_ok-records.ensures)
-
-pub invariant_of-facts-clause-most : goal.invariant_of-facts-clause-most
-invariant_of-facts-clause-most c = (admitted_count _ _ c.in_ok-records.ensures).most
 
 pub returns-then-records-facts : goal.returns-then-records-facts
 returns-then-records-facts c =

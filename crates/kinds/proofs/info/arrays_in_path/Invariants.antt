@@ -1,8 +1,7 @@
-use Rattle.kinds.proofs.UpLaws.{Upward}
+use Rattle.paths.specs.Lent.{facts_of}
+use Rattle.paths.specs.Chain.{upward_left}
+use Rattle.kinds.proofs.UpLaws.{Counting}
 use Rattle.kinds.proofs.info.arrays_in_path.Given as goal
 
 abbrev pub invariant-loop-c : goal.invariant-loop-c
-invariant-loop-c l = Upward l.facts.table.now l.facts.used l.facts.records l.r l.arrays l.c
-
-abbrev pub decreases-loop-c : goal.decreases-loop-c
-decreases-loop-c l = l.c
+invariant-loop-c l = Counting (facts_of l.facts) l.r l.arrays (upward_left l.c-iterator)

@@ -1,34 +1,25 @@
-use Rattle.std.proofs.Common.{sym, ◌∙◌, refl, arith, eqb-true}
+use Rattle.std.proofs.Common.{sym, ap, ◌∙◌, arith, eqb-true}
 use borrow.Author.Tests.{eqb-false}
-use Rattle.facts.proofs.Chains.{key_le}
-use Rattle.paths.proofs.Tail.{tail_kid, next_less}
-use Rattle.list.proofs.ChildrenLaws.{looking_start, looking_unseen, childless_no, childless_yes}
+use Rattle.paths.specs.Chain.{children_left}
+use Rattle.paths.proofs.Chaining.{left_kid}
+use Rattle.list.proofs.ChildrenLaws.{unmet_start, unmet_kid, unmet_met, unmet_next, unmet_done}
 use Rattle.list.proofs.seen.is_childless.Goals as goal
 
 pub loop-child-init : goal.loop-child-init
-loop-child-init c = looking_start _ _ _ _ _ c.args.facts.now.shaped c.requires.0 c.requires.1 c.child-child.ensures
+loop-child-init c = unmet_start _ _ _ (ap children_left c.into_iter-child-iterator.ensures.into_iter_gives ∙ c.children-child-items.ensures)
 
 pub is_seen-requires : goal.is_seen-requires
 is_seen-requires c =
-    let K = tail_kid _ _ _ _ _ c.loop-child.invariant.tail c.loop-child-test.true in (let a = K.above in omega arith, K.used)
+    let K = left_kid _ _ _ _ (unmet_kid _ _ _ _ _ c.loop-child.invariant c.in-Some.ensures.steps) in
+    (let a = K.above in omega arith, K.used)
 
 pub returns-then-is_seen : goal.returns-then-is_seen
 returns-then-is_seen c =
-    childless_no _ _ _ _ c.loop-child.invariant c.loop-child-test.true (eqb-true _ _ (sym c.is_seen.ensures ∙ c.if-is_seen.true))
-
-pub next-child-requires : goal.next-child-requires
-next-child-requires c =
-    let K = tail_kid _ _ _ _ _ c.loop-child.invariant.tail c.loop-child-test.true in (let a = K.above in omega arith, K.used)
-
-pub loop-child-smaller : goal.loop-child-smaller
-loop-child-smaller c =
-    next_less _ _ _ _ _ _ c.args.facts.now.shaped.linked c.requires.0 c.requires.1
-    (tail_kid _ _ _ _ _ c.loop-child.invariant.tail c.loop-child-test.true) (key_le _ _) c.next-child.ensures
+    unmet_met _ _ _ _ _ c.loop-child.invariant c.in-Some.ensures.steps (eqb-true _ _ (sym c.is_seen.ensures ∙ c.if-is_seen.true))
 
 pub loop-child-preserved : goal.loop-child-preserved
 loop-child-preserved c =
-    looking_unseen _ _ _ _ _ _ _ c.loop-child.invariant c.loop-child-test.true _ _ _ _ (eqb-false _ _ (sym c.is_seen.ensures ∙ c.if-is_seen.false))
-    refl refl refl c.next-child.ensures
+    unmet_next _ _ _ _ _ c.loop-child.invariant c.in-Some.ensures.steps (eqb-false _ _ (sym c.is_seen.ensures ∙ c.if-is_seen.false))
 
 pub returns : goal.returns
-returns c = childless_yes _ _ _ _ c.loop-child.invariant c.loop-child-test.false
+returns c = unmet_done _ _ _ c.loop-child.invariant c.in-None.ensures.steps.0

@@ -36,7 +36,7 @@ overflow_add-count c =
     let I = c.loop-last_key.invariant in
     let h = c.args.facts.now in
     let fits = looking_fits _ _ _ _ _ _ _ I.0 I.1.some (eqb-true _ _ (sym c.is_seen.ensures ∙ c.if-is_seen.true))
-    (let a = h.shaped.most in let b = h.most in omega arith) in
+    (let a = h.shaped.most in let b = h.fits in omega arith) in
     omega arith
 
 pub loop-next-smaller : goal.loop-next-smaller

@@ -1,5 +1,3 @@
-use Rattle.std.proofs.Common.{List, ◌∙◌}
-use Rattle.facts.specs.State.{Node}
 use Rattle.paths.specs.Make.{Made}
 use Rattle.paths.proofs.Lending.{makes_then}
 use Rattle.kinds.specs.Kinds.{set_dynamic}

@@ -1,5 +1,4 @@
 use Rattle.operations.specs.Run.{run}
-use Rattle.operations.specs.Asks.{Reaches, makes}
 use Rattle.operations.specs.declared.Operation.TheVariants.{MarkNotBool, InsertNotBool, GetOrCreate, SetTname}
 use Rattle.paths.proofs.Lending.{stays, grows_so}
 use Rattle.operations.proofs.Calls.{operation_room}

@@ -1,14 +1,11 @@
 use Rattle.std.proofs.Common.{refl, rules}
 use Rattle.paths.proofs.Frame.{sound_shaped}
-use Rattle.head.proofs.Asking.{admitted_count, admitted_sound}
+use Rattle.head.proofs.Asking.{admitted_sound}
 use Rattle.step.proofs.Taking.{hints_reach_lem, hints_room, plan_reach, plan_room, stack_asks, memory_asks, taken}
 use Rattle.step.proofs.arrive.take.Goals as goal
 
 pub invariant_of-facts-clause-shaped : goal.invariant_of-facts-clause-shaped
 invariant_of-facts-clause-shaped c = sound_shaped _ _ _ (admitted_sound _ _ c.in_ok-records.ensures)
-
-pub invariant_of-facts-clause-most : goal.invariant_of-facts-clause-most
-invariant_of-facts-clause-most c = (admitted_count _ _ c.in_ok-records.ensures).most
 
 pub run_hints-requires-clause-reach : goal.run_hints-requires-clause-reach
 run_hints-requires-clause-reach c = hints_reach_lem _ _ _ _ _ _ _ _ c.in_ok-planned.ensures

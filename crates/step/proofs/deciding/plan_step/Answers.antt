@@ -8,8 +8,8 @@ read_step-step-requires-clause-s_len c = fit_width _ _ _ c.requires.sizes
 pub read_step-step-requires-clause-step_op_bound : goal.read_step-step-requires-clause-step_op_bound
 read_step-step-requires-clause-step_op_bound c = fit_op _ _ c.requires.fields
 
-pub plan_of-plan-requires : goal.plan_of-plan-requires
-plan_of-plan-requires c = plan_asks _ _ _ _ _ _ _ c.requires _ c.read_step-step.ensures
+pub plan_of-plan-requires-clause-reaches : goal.plan_of-plan-requires-clause-reaches
+plan_of-plan-requires-clause-reaches c = plan_asks _ _ _ _ _ _ _ c.requires _ c.read_step-step.ensures
 
 pub has_room-requires : goal.has_room-requires
 has_room-requires c = room_asks _ _ _ _ _ _ _ c.requires _ c.read_step-step.ensures _ c.plan_of-plan.ensures

@@ -3,8 +3,4 @@ use Rattle.paths.specs.Place.{Before}
 use Rattle.paths.proofs.lent.Facts.nearest.Given as goal
 
 abbrev pub invariant-loop-r : goal.invariant-loop-r
-invariant-loop-r l =
-    Before l.self.table.now l.self.used l.parent l.key l.near.child × (l.near.low ≤ l.key) × (l.r ≤ l.self.used)
-
-abbrev pub decreases-loop-r : goal.decreases-loop-r
-decreases-loop-r l = l.r
+invariant-loop-r l = Before l.self.table.now l.self.used l.parent l.key l.near.child × (l.near.low ≤ l.key)
