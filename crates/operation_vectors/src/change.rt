@@ -38,7 +38,7 @@ pub fn change(facts: &mut Facts, change: Change, child: Child) -> Answer {
     if parent < 1 || facts.used < parent {
         return Answer::Skipped;
     }
-    if facts.records < facts.used + facts.missing(parent, key) {
+    if facts.records - facts.used < facts.missing(parent, key) {
         return Answer::Skipped;
     }
     make(facts, change, parent, key)

@@ -31,7 +31,7 @@ fn visit(facts: &mut Facts, visit: Visit, r: u32) -> Answer {
 }
 
 fn fill(facts: &mut Facts, words: u32) -> Answer {
-    if WORDS_MAX < words || facts.records < facts.used + kinds::fill_missing(facts, words) {
+    if WORDS_MAX < words || facts.records - facts.used < kinds::fill_missing(facts, words) {
         return Answer::Skipped;
     }
     kinds::fill(facts, words);

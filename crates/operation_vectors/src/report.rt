@@ -7,7 +7,10 @@ use std::io;
 
 // How many records are used, and whether the table is sound.
 pub fn tell(rt: &impl Print, facts: &Facts) -> io::Result<()> {
-    let sound = facts::is_sound(facts.table, facts.records, facts.used);
+    let sound = match facts::record_count(facts.table.len()) {
+        Ok(records) => facts::is_sound(facts.table, records, facts.used),
+        Err(_) => false,
+    };
     println!(rt;
         "; used {} {}",
         facts.used,
