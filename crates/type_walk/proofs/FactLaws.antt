@@ -7,6 +7,9 @@ use native.Mathlib.Omega.{arith}
 use native.Mathlib.Nat.{add-zero}
 use lib.ListN.{length, set, length-set, length-append}
 use lib.Seq.{sets, length-sets}
+use Rattle.std.specs.Prelude.{Option, None, Some}
+use Rattle.std.specs.Option.{ForSome}
+use Rattle.limits.specs.Codes as code
 use Rattle.limits.specs.Limits.{types_room}
 use Rattle.spell.proofs.Stores.{sets_both}
 use Rattle.types.specs.Codes.{codes, all_codes}
@@ -35,11 +38,11 @@ module _ {t : List ℕ} {u N c : ℕ} (S : Sound t u N) (c1 : 1 ≤ c) (cu : c �
   fact_is : is_record (node_of (nodes t u) c) ≡ true
   fact_is = (sound_formed t u N S).fact c c1 cn
 
-  module _ {x : ℕ} (e : x ≡ leaf_code (nodes t u) c) where
+  module _ {o : Option ℕ} (e : o ≡ leaf_code (nodes t u) c) where
     -- the one code x
-    module _ (n : x ≡ 0 → ⊥) where
+    module _ {x : ℕ} (n : o ≡ Some x) where
       leaf_length : length (codes (word_type (nodes t u) c)) ≡ 1
-      leaf_length = ap (λ (cs : List ℕ). length cs) (leaf_codes t u N c S c1 cu x e n)
+      leaf_length = ap (λ (cs : List ℕ). length cs) (leaf_codes t u N c S c1 cu x (sym n ∙ e))
 
       pub leaf_fits : at + 1 ≤ types_room
       leaf_fits = let l = leaf_length in omega arith
@@ -49,19 +52,19 @@ module _ {t : List ℕ} {u N c : ℕ} (S : Sound t u N) (c1 : 1 ≤ c) (cu : c �
       leaf_led {a} s w q = record {
         start = omega arith;
         size = length-set types at x;
-        left = rw (w, leaf_codes t u N c S c1 cu x e n) refl;
-        ends = rw (w, leaf_codes t u N c S c1 cu x e n) (add-zero a.to ∙ q);
+        left = rw (w, leaf_codes t u N c S c1 cu x (sym n ∙ e)) refl;
+        ends = rw (w, leaf_codes t u N c S c1 cu x (sym n ∙ e)) (add-zero a.to ∙ q);
       }
 
     -- the plan p
-    module _ (z : x ≡ 0) {p : Plan} (f : p ≡ plan_of (nodes t u) c) where
+    module _ (z : o ≡ None) {p : Plan} (f : p ≡ plan_of (nodes t u) c) where
       -- the codes of the words that follow
       abbrev inner : List ℕ
       inner = all_codes (word_types (nodes t u) c p.start p.words)
 
       plan_is : codes (word_type (nodes t u) c) ≡ leads p ++ inner
       plan_is =
-          ap codes (leaf_none t u N c S c1 cu x e z) ∙ codes_plan (nodes t u) (shaped_ordered t u N (sound_shaped t u N S)) c c1 cn fact_is
+          ap codes (leaf_none t u N c S c1 cu (sym z ∙ e)) ∙ codes_plan (nodes t u) (shaped_ordered t u N (sound_shaped t u N S)) c c1 cn fact_is
           ∙ ap (λ (y : Plan). leads y ++ all_codes (word_types (nodes t u) c y.start y.words)) (sym f)
 
       plan_length : length (codes (word_type (nodes t u) c)) ≡ length (leads p) + length inner
@@ -70,11 +73,17 @@ module _ {t : List ℕ} {u N c : ℕ} (S : Sound t u N) (c1 : 1 ≤ c) (cu : c �
       bounded : Bounded p
       bounded = rw f (bounded_plan (nodes t u) c fact_is)
 
-      pub plan_fits : ((p.first < 2 ^ 16) × (p.second < 2 ^ 16)) × (at + length (leads p) ≤ length types)
-      plan_fits =
-          let l = plan_length in let h = words_codes (nodes t u) c p.start p.words in
-          let g = bounded.first in let k = bounded.second in
-          ((omega arith, omega arith), omega arith)
+      pub plan_fits : at + length (leads p) ≤ length types
+      plan_fits = let l = plan_length in omega arith
+
+      words_few : code.tuple + p.words < 2 ^ 16
+      words_few = let l = plan_length in let h = words_codes (nodes t u) c p.start p.words in omega arith
+
+      pub first_fits : ForSome p.first (λ y. y < 2 ^ 16)
+      first_fits y q = let g = bounded.first y q in let h = words_few in omega arith
+
+      pub second_fits : ForSome p.second (λ y. y < 2 ^ 16)
+      second_fits y q = let g = bounded.second y q in let h = words_few in omega arith
 
       pub plan_led : {types₁ : List ℕ} {a : Rest} → types₁ ≡ sets types at (leads p) → a.to ≡ at + length (leads p) → a.start ≡ p.start → a.words ≡ p.words
           → Led (nodes t u) c types at types₁ a

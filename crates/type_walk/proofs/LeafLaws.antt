@@ -8,6 +8,8 @@ use native.Mathlib.Decide.{ℕ_discrete}
 use lib.Dec.{eqb}
 use lib.ListN.{length}
 use borrow.Author.Tests.{eqb-true, eq-eqb, ne_eqb}
+use Rattle.std.specs.Prelude.{Option, None, Some}
+use Rattle.std.proofs.lemmas.Option.{none-some, same_Some}
 use Rattle.limits.specs.Codes as code
 use Rattle.limits.specs.Limits.{word_bytes}
 use Rattle.names.specs.Elementary.{code_of}
@@ -31,7 +33,7 @@ use Rattle.list.specs.Seen.{seen_ones, children_in, is_empty, last_from, last_wo
 use Rattle.list.specs.Types.{uint256, name_holds, has_word, words_with, type_of, word_types}
 use Rattle.type_walk.specs.declared.Plan.{Plan}
 use Rattle.type_walk.specs.Plan.{plan, word_code, open_plan, kind_plan, plan_of, word_type, leaf_code, leads}
-use Rattle.type_walk.proofs.PlanLaws.{lead_some, codes_plan}
+use Rattle.type_walk.proofs.PlanLaws.{codes_plan}
 use Rattle.type_walk.proofs.BoundLaws.{name_bound}
 
 -- a key that no word comes to
@@ -104,13 +106,12 @@ module _ (t : List ℕ) (u N c : ℕ) (S : Sound t u N) (c1 : 1 ≤ c) (cu : c �
     named_codes : (v ≡ 0 → ⊥) → codes (type_of (nodes t u) c) ≡ v ∷ []
     unfolding plan_of words_with all_codes
     named_codes n =
-        spelt (plan v 0 0 0) (rw (no_children, leaf_holds (node_of (nodes t u) c) kind_is (λ z. n (sym name_is ∙ z)), name_is) refl)
-        ∙ rw (lead_some v (omega (arith, n))) refl
+        spelt (plan (Some v) None 0 0) (rw (no_children, leaf_holds (node_of (nodes t u) c) kind_is (λ z. n (sym name_is ∙ z)), name_is) refl)
 
     unnamed_codes : v ≡ 0 → codes (type_of (nodes t u) c) ≡ word_code ∷ []
     unfolding plan_of kind_plan open_plan words_with all_codes codes code_of
     unnamed_codes z =
-        spelt (plan 0 0 0 1) (rw (leaf_fails (node_of (nodes t u) c) (is_empty (children_in (nodes t u) c)) (name_is ∙ z), kind_is, no_words) refl)
+        spelt (plan None None 0 1) (rw (leaf_fails (node_of (nodes t u) c) (is_empty (children_in (nodes t u) c)) (name_is ∙ z), kind_is, no_words) refl)
         ∙ rw no_word refl
 
   -- the record has a child exactly if the fact has one
@@ -125,12 +126,12 @@ module _ (t : List ℕ) (u N c : ℕ) (S : Sound t u N) (c1 : 1 ≤ c) (cu : c �
       go (no n) = rw (kids_nodes t u c, (tail_more t u c h (kids_of t u c) start n).is, ne_eqb h 0 n) refl
 
   -- what the code answers
-  leaf_unseen : (seen_of t c ≡ 1 → ⊥) → word_code ≡ leaf_code (nodes t u) c
+  leaf_unseen : (seen_of t c ≡ 1 → ⊥) → Some word_code ≡ leaf_code (nodes t u) c
   unfolding leaf_code
   leaf_unseen n = sym (rw (node_is, ne_eqb (seen_of t c) 1 n) refl)
 
   leaf_is : seen_of t c ≡ 1 → leaf_code (nodes t u) c
-      ≡ cond (eqb (child_of t c) 0 && eqb (kind_of t c) 0) (cond (eqb (name_of t c) code.no_name) word_code (name_of t c)) 0
+      ≡ cond (eqb (child_of t c) 0 && eqb (kind_of t c) 0) (Some (cond (eqb (name_of t c) code.no_name) word_code (name_of t c))) None
   unfolding leaf_code
   leaf_is w1 = rw (kids_empty (child_of t c) refl, node_is, eq-eqb (seen_of t c) 1 w1) refl
 
@@ -138,59 +139,59 @@ module _ (t : List ℕ) (u N c : ℕ) (S : Sound t u N) (c1 : 1 ≤ c) (cu : c �
   module _ (h k : ℕ) (he : h ≡ child_of t c) (ke : k ≡ (node_of (nodes t u) c).kind) (b : Bool) (seen : b ≡ eqb (node_of (nodes t u) c).seen 1)
       (bt : b ≡ true) where
     leaf_by : leaf_code (nodes t u) c
-        ≡ cond (eqb h 0 && eqb k 0) (cond (eqb (node_of (nodes t u) c).name code.no_name) word_code (node_of (nodes t u) c).name) 0
+        ≡ cond (eqb h 0 && eqb k 0) (Some (cond (eqb (node_of (nodes t u) c).name code.no_name) word_code (node_of (nodes t u) c).name)) None
     unfolding leaf_code
     leaf_by = rw (kids_empty h he, ← ke, ← seen, bt) refl
 
-    pub leaf_else : (not (eqb h 0) || not (eqb k 0)) ≡ true → 0 ≡ leaf_code (nodes t u) c
+    pub leaf_else : (not (eqb h 0) || not (eqb k 0)) ≡ true → None ≡ leaf_code (nodes t u) c
     leaf_else q = sym (leaf_by ∙ none (eqb h 0) (eqb k 0) _ q)
       where
-        none : (a d : Bool) (x : ℕ) → (not a || not d) ≡ true → cond (a && d) x 0 ≡ 0
+        none : (a d : Bool) (x : Option ℕ) → (not a || not d) ≡ true → cond (a && d) x None ≡ None
         none true true x q = absurd (true≢false (sym q))
         none true false x q = refl
         none false d x q = refl
 
     module _ (q : (not (eqb h 0) || not (eqb k 0)) ≡ false) (v : ℕ) (e : v ≡ (node_of (nodes t u) c).name) where
-      some : (a d : Bool) (x : ℕ) → (not a || not d) ≡ false → cond (a && d) x 0 ≡ x
+      some : (a d : Bool) (x : Option ℕ) → (not a || not d) ≡ false → cond (a && d) x None ≡ x
       some true true x q = refl
       some true false x q = absurd (true≢false q)
       some false d x q = absurd (true≢false q)
 
-      pub leaf_unnamed : v ≡ 0 → word_code ≡ leaf_code (nodes t u) c
+      pub leaf_unnamed : v ≡ 0 → Some word_code ≡ leaf_code (nodes t u) c
       leaf_unnamed z = sym (leaf_by ∙ some (eqb h 0) (eqb k 0) _ q ∙ rw (← e, z) refl)
 
-      pub leaf_named : (v ≡ 0 → ⊥) → v ≡ leaf_code (nodes t u) c
+      pub leaf_named : (v ≡ 0 → ⊥) → Some v ≡ leaf_code (nodes t u) c
       leaf_named n = sym (leaf_by ∙ some (eqb h 0) (eqb k 0) _ q ∙ rw (← e, ne_eqb v 0 n) refl)
 
-  -- and what its answer x says
-  module _ (x : ℕ) (e : x ≡ leaf_code (nodes t u) c) where
-    -- 0 stands for a fact
-    pub leaf_none : x ≡ 0 → word_type (nodes t u) c ≡ type_of (nodes t u) c
-    unfolding word_type leaf_code
-    leaf_none z = go (eqb (node_of (nodes t u) c).seen 1) _ (sym z ∙ e)
-      where
-        go : (b : Bool) (y : ℕ) → 0 ≡ cond b y word_code → cond b (type_of (nodes t u) c) uint256 ≡ type_of (nodes t u) c
-        go true y q = refl
-        go false y q = absurd (omega arith)
+  -- and what its answer says: none is a fact's
+  pub leaf_none : None ≡ leaf_code (nodes t u) c → word_type (nodes t u) c ≡ type_of (nodes t u) c
+  unfolding word_type leaf_code
+  leaf_none e = go (eqb (node_of (nodes t u) c).seen 1) _ e
+    where
+      go : (b : Bool) (y : Option ℕ) → None ≡ cond b y (Some word_code) → cond b (type_of (nodes t u) c) uint256 ≡ type_of (nodes t u) c
+      go true y q = refl
+      go false y q = absurd (none-some _ q)
 
-    answer_is : seen_of t c ≡ 1 → x ≡ cond (eqb (child_of t c) 0 && eqb (kind_of t c) 0) (cond (eqb (name_of t c) code.no_name) word_code (name_of t c)) 0
+  module _ (x : ℕ) (e : Some x ≡ leaf_code (nodes t u) c) where
+    answer_is : seen_of t c ≡ 1 → Some x
+        ≡ cond (eqb (child_of t c) 0 && eqb (kind_of t c) 0) (Some (cond (eqb (name_of t c) code.no_name) word_code (name_of t c))) None
     answer_is w = e ∙ leaf_is w
 
     pub leaf_small : x ≤ 3032
     leaf_small = go (ℕ_discrete (seen_of t c) 1)
       where
-        go : Dec (seen_of t c ≡ 1) → x ≤ 3032
-        go (no n) = let q = e ∙ sym (leaf_unseen n) in omega arith
-        go (yes w) = rw (answer_is w) (both (eqb (child_of t c) 0 && eqb (kind_of t c) 0) (eqb (name_of t c) code.no_name))
-          where
-            both : (a b : Bool) → cond a (cond b word_code (name_of t c)) 0 ≤ 3032
-            both false b = omega arith
-            both true true = omega arith
-            both true false = name_small (name_of t c) refl
+        both : (a b : Bool) → Some x ≡ cond a (Some (cond b word_code (name_of t c))) None → x ≤ 3032
+        both false b q = absurd (none-some _ (sym q))
+        both true true q = let z = same_Some _ _ q in omega arith
+        both true false q = let z = same_Some _ _ q in let l = name_small (name_of t c) refl in omega arith
 
-    pub leaf_codes : (x ≡ 0 → ⊥) → codes (word_type (nodes t u) c) ≡ x ∷ []
+        go : Dec (seen_of t c ≡ 1) → x ≤ 3032
+        go (no n) = let q = same_Some _ _ (e ∙ sym (leaf_unseen n)) in omega arith
+        go (yes w) = both (eqb (child_of t c) 0 && eqb (kind_of t c) 0) (eqb (name_of t c) code.no_name) (answer_is w)
+
+    pub leaf_codes : codes (word_type (nodes t u) c) ≡ x ∷ []
     unfolding word_type codes code_of
-    leaf_codes n = go (ℕ_discrete (seen_of t c) 1) (ℕ_discrete (child_of t c) 0) (ℕ_discrete (kind_of t c) 0) (ℕ_discrete (name_of t c) 0)
+    leaf_codes = go (ℕ_discrete (seen_of t c) 1) (ℕ_discrete (child_of t c) 0) (ℕ_discrete (kind_of t c) 0) (ℕ_discrete (name_of t c) 0)
       where
         seen_is : (node_of (nodes t u) c).seen ≡ seen_of t c
         seen_is = ap (λ (n : Node). n.seen) node_is
@@ -198,14 +199,17 @@ module _ (t : List ℕ) (u N c : ℕ) (S : Sound t u N) (c1 : 1 ≤ c) (cu : c �
         fact : seen_of t c ≡ 1 → codes (word_type (nodes t u) c) ≡ codes (type_of (nodes t u) c)
         fact w = rw (eq-eqb (node_of (nodes t u) c).seen 1 (seen_is ∙ w)) refl
 
+        alone : (y : ℕ) → Some x ≡ Some y → y ∷ [] ≡ x ∷ []
+        alone y q = ap (λ (z : ℕ). z ∷ []) (sym (same_Some _ _ q))
+
         go : Dec (seen_of t c ≡ 1) → Dec (child_of t c ≡ 0) → Dec (kind_of t c ≡ 0) → Dec (name_of t c ≡ 0) → codes (word_type (nodes t u) c) ≡ x ∷ []
         go (no w) h k v =
-            rw (ne_eqb (node_of (nodes t u) c).seen 1 (λ z. w (sym seen_is ∙ z))) (ap (λ (y : ℕ). y ∷ []) (leaf_unseen w ∙ sym e))
-        go (yes w) (no h) k v = absurd (n (answer_is w ∙ rw (ne_eqb (child_of t c) 0 h) refl))
-        go (yes w) (yes h) (no k) v = absurd (n (answer_is w ∙ rw (eq-eqb (child_of t c) 0 h, ne_eqb (kind_of t c) 0 k) refl))
+            rw (ne_eqb (node_of (nodes t u) c).seen 1 (λ z. w (sym seen_is ∙ z))) (alone word_code (e ∙ sym (leaf_unseen w)))
+        go (yes w) (no h) k v = absurd (none-some _ (sym (answer_is w ∙ rw (ne_eqb (child_of t c) 0 h) refl)))
+        go (yes w) (yes h) (no k) v = absurd (none-some _ (sym (answer_is w ∙ rw (eq-eqb (child_of t c) 0 h, ne_eqb (kind_of t c) 0 k) refl)))
         go (yes w) (yes h) (yes k) (yes v) =
             fact w ∙ unnamed_codes (name_of t c) refl (child_of t c) (kind_of t c) refl h refl k v
-            ∙ ap (λ (y : ℕ). y ∷ []) (sym (answer_is w ∙ rw (eq-eqb (child_of t c) 0 h, eq-eqb (kind_of t c) 0 k, eq-eqb (name_of t c) 0 v) refl))
+            ∙ alone word_code (answer_is w ∙ rw (eq-eqb (child_of t c) 0 h, eq-eqb (kind_of t c) 0 k, eq-eqb (name_of t c) 0 v) refl)
         go (yes w) (yes h) (yes k) (no v) =
             fact w ∙ named_codes (name_of t c) refl (child_of t c) (kind_of t c) refl h refl k v
-            ∙ ap (λ (y : ℕ). y ∷ []) (sym (answer_is w ∙ rw (eq-eqb (child_of t c) 0 h, eq-eqb (kind_of t c) 0 k, ne_eqb (name_of t c) 0 v) refl))
+            ∙ alone (name_of t c) (answer_is w ∙ rw (eq-eqb (child_of t c) 0 h, eq-eqb (kind_of t c) 0 k, ne_eqb (name_of t c) 0 v) refl)

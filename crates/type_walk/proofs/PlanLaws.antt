@@ -7,10 +7,11 @@ use native.Mathlib.Omega.{arith}
 use lib.Dec.{eqb, leb}
 use lib.ListN.{length}
 use borrow.Author.Tests.{eqb-true, eq-eqb, le-leb, leb-true}
+use Rattle.std.specs.Prelude.{None, Some}
 use Rattle.limits.specs.Codes as code
 use Rattle.limits.specs.Limits.{word_bytes, kind_dynamic, kind_array, array_count_max, dynamic_count_max}
 use Rattle.names.specs.Elementary.{bytes, code_of, is_name}
-use Rattle.names.proofs.Codes.{name_is_code, name_some}
+use Rattle.names.proofs.Codes.{name_is_code}
 use Rattle.types.specs.Tree.{AbiType, AbiTypes, elementary, array, count}
 use Rattle.types.specs.Codes.{codes, all_codes}
 use Rattle.facts.specs.State.{Node, node_of}
@@ -29,11 +30,6 @@ use Rattle.type_walk.specs.Plan.{plan, tuple_code, open_plan, kind_plan, plan_of
 end_word : (k c : ℕ) → max k (word_bytes * c) ≡ word_bytes → max (k / word_bytes) c ≡ 1
 end_word k c e = omega arith
 
--- a code that is not 0 stands alone
-pub lead_some : (c : ℕ) → 1 ≤ c → lead c ≡ c ∷ []
-lead_some zero h = absurd (omega arith)
-lead_some (suc c) h = refl
-
 module _ (s : List Node) (r : ℕ) where
   ends : end_key s r ≡ word_bytes → last_word s r ≡ 1
   unfolding end_key last_word
@@ -48,11 +44,11 @@ module _ (s : List Node) (r : ℕ) where
   either false x y p q f g = g refl
 
   -- two types and more are a tuple
-  tuple_leads : (n w : ℕ) (cs : List ℕ) → 2 ≤ n → (code.tuple + n) ∷ cs ≡ leads (plan (tuple_code n) 0 w n) ++ cs
-  tuple_leads n w cs h = rw (le-leb 2 n h, lead_some (code.tuple + n) (omega arith)) refl
+  tuple_leads : (n w : ℕ) (cs : List ℕ) → 2 ≤ n → (code.tuple + n) ∷ cs ≡ leads (plan (tuple_code n) None w n) ++ cs
+  tuple_leads n w cs h = rw (le-leb 2 n h) refl
 
   -- the types of one word and more, as one
-  spelt_together : (w n : ℕ) → 1 ≤ n → Spelt (together (word_types s r w n)) (plan (tuple_code n) 0 w n)
+  spelt_together : (w n : ℕ) → 1 ≤ n → Spelt (together (word_types s r w n)) (plan (tuple_code n) None w n)
   unfolding codes all_codes words_with count
   spelt_together w zero h = absurd (omega arith)
   spelt_together w (suc zero) h = sym (append-nil _)
@@ -60,13 +56,13 @@ module _ (s : List Node) (r : ℕ) where
       ap (λ (k : ℕ). (code.tuple + suc (suc k)) ∷ all_codes (word_types s r w (suc (suc n)))) (count_words (type_of s) s r (suc (suc w)) n)
       ∙ tuple_leads (suc (suc n)) w (all_codes (word_types s r w (suc (suc n)))) (omega arith)
 
-  spelt_array : (w n : ℕ) → 1 ≤ n → Spelt (array (together (word_types s r w n))) (plan code.array (tuple_code n) w n)
+  spelt_array : (w n : ℕ) → 1 ≤ n → Spelt (array (together (word_types s r w n))) (plan (Some code.array) (tuple_code n) w n)
   unfolding codes
   spelt_array w n h =
       ap (λ (cs : List ℕ). code.array ∷ cs) (spelt_together w n h)
       ∙ ap (λ (cs : List ℕ). code.array ∷ (cs ++ all_codes (word_types s r w n))) (append-nil (lead (tuple_code n)))
 
-  spelt_second : (n : ℕ) → n ≡ 1 → Spelt (array (second (word_types s r 0 (suc n)))) (plan code.array 0 1 1)
+  spelt_second : (n : ℕ) → n ≡ 1 → Spelt (array (second (word_types s r 0 (suc n)))) (plan (Some code.array) None 1 1)
   unfolding codes all_codes words_with
   spelt_second n e = rw e (ap (λ (cs : List ℕ). code.array ∷ cs) (sym (append-nil _)))
 
@@ -99,7 +95,7 @@ module _ (s : List Node) (r : ℕ) where
       go : (b : Bool) → eqb (node_of s r).kind kind_array ≡ b
           → Spelt
           (cond b (array (together (word_types s r (cond b 1 0) (suc (last_word s r) - cond b 1 0)))) (open_type (word_types s r (cond b 1 0) (suc (last_word s r) - cond b 1 0))))
-          (cond b (plan code.array (tuple_code (last_word s r)) 1 (last_word s r))
+          (cond b (plan (Some code.array) (tuple_code (last_word s r)) 1 (last_word s r))
           (open_plan (node_of s r).kind (is_empty (children_in s r)) (is_lone_kindless s (children_in s r)) (end_key s r) (last_word s r)))
       go true e =
           let l : suc (last_word s r) - 1 ≡ last_word s r = omega arith in
@@ -149,5 +145,5 @@ module _ (s : List Node) (O : Ordered s) (r : ℕ) (r1 : 1 ≤ r) (rn : r ≤ le
       ap codes (type_is s O r r1 rn)
       ∙ either s r (name_holds (node_of s r) (is_empty (children_in s r))) _ _ _ _
       (λ q. let a = holds_name (node_of s r) (is_empty (children_in s r)) F q in
-      ap (λ (c : ℕ). c ∷ []) (name_is_code (node_of s r).name a) ∙ sym (rw (lead_some (node_of s r).name (name_some (node_of s r).name a)) refl))
+      ap (λ (c : ℕ). c ∷ []) (name_is_code (node_of s r).name a))
       (λ _. spelt_kind s r array_word)

@@ -10,7 +10,7 @@ use lib.ListN.{length, set, length-append}
 use lib.Seq.{sets, length-sets}
 use borrow.Author.Tests.{eq-eqb, ne_eqb}
 use Rattle.limits.specs.Limits.{word_bytes, types_room}
-use Rattle.spell.proofs.Stores.{sets_append, sets_both}
+use Rattle.spell.proofs.Stores.{sets_append}
 use Rattle.names.specs.Elementary.{code_of}
 use Rattle.types.specs.Codes.{codes, all_codes}
 use Rattle.types.proofs.Sizes.{count_codes}
@@ -30,34 +30,7 @@ use Rattle.list.specs.Types.{uint256, has_word, words_with, type_of, word_types}
 use Rattle.list.proofs.TypeLaws.{count_words}
 use Rattle.type_walk.specs.declared.Rest.{Rest}
 use Rattle.type_walk.specs.Walk.{Reached, Writing, Led}
-use Rattle.type_walk.specs.Plan.{word_code, word_type, lead}
-use Rattle.type_walk.proofs.PlanLaws.{lead_some}
-
--- one code or none
-pub lead_none : (l : List ℕ) (i c : ℕ) → c ≡ 0 → (l ≡ sets l i (lead c)) × (i ≡ i + length (lead c))
-lead_none l i c z = rw z (refl, sym (add-zero i))
-
-pub lead_one : (l : List ℕ) (i c : ℕ) → (c ≡ 0 → ⊥) → (set l i c ≡ sets l i (lead c)) × (i + 1 ≡ i + length (lead c))
-lead_one l i c n = rw (lead_some c (omega (arith, n))) (refl, refl)
-
-pub lead_fits : (i c m : ℕ) → (c ≡ 0 → ⊥) → i + length (lead c) ≤ m → i < m
-lead_fits i c m n h = let e = ap (λ (cs : List ℕ). length cs) (lead_some c (omega (arith, n))) in omega arith
-
--- two of them
-module _ (l : List ℕ) (i f g : ℕ) where
-  leads_length : length (lead f ++ lead g) ≡ length (lead f) + length (lead g)
-  leads_length = length-append (lead f) (lead g)
-
-  pub first_fits : (m : ℕ) → i + length (lead f ++ lead g) ≤ m → i + length (lead f) ≤ m
-  first_fits m h = let e = leads_length in omega arith
-
-  pub second_fits : (l' : List ℕ) (j : ℕ) → i + length (lead f ++ lead g) ≤ length l → l' ≡ sets l i (lead f) → j ≡ i + length (lead f)
-      → j + length (lead g) ≤ length l'
-  second_fits l' j h e q = let n = leads_length in let k = ap (λ (x : List ℕ). length x) e ∙ length-sets l i (lead f) in omega arith
-
-  pub both_leads : (l' l'' : List ℕ) (j k : ℕ) → l' ≡ sets l i (lead f) → j ≡ i + length (lead f) → l'' ≡ sets l' j (lead g) → k ≡ j + length (lead g)
-      → (l'' ≡ sets l i (lead f ++ lead g)) × (k ≡ i + length (lead f ++ lead g))
-  both_leads l' l'' j k e q d p = (sets_both l l' l'' i j (lead f) (lead g) e q d, let n = leads_length in omega arith)
+use Rattle.type_walk.specs.Plan.{word_code, word_type}
 
 -- the child to look at
 module _ (t : List ℕ) (u p : ℕ) (L : Linked t u) (p1 : 1 ≤ p) (pu : p ≤ u) where

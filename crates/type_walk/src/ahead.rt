@@ -17,12 +17,12 @@ use paths::Facts;
 // The code of uint256.
 pub const WORD_CODE: u32 = UINT + 256;
 
-// The code of a tuple of so many types, 0 where it is none.
-fn tuple_code(n: u32) -> u32
+// The code of a tuple of so many types, if it is one.
+fn tuple_code(n: u32) -> Option<u32>
     requires { n ≤ suc dynamic_count_max }
     ensures { result ≡ tuple_code n }
 {
-    if 2 <= n { TUPLE + n } else { 0 }
+    if 2 <= n { Some(TUPLE + n) } else { None }
 }
 
 // Is the name the type?
@@ -62,31 +62,31 @@ fn open_plan(kind: u32, kids: Children, count: u32, last: u32) -> Plan
     let one = ends_at(kids.last_key, count, 1);
     if dynamic & none & childless {
         return Plan {
-            first: BYTES,
-            second: 0,
+            first: Some(BYTES),
+            second: None,
             start: 0,
             words: 0,
         };
     }
     if dynamic & one & childless {
         return Plan {
-            first: ARRAY,
-            second: WORD_CODE,
+            first: Some(ARRAY),
+            second: Some(WORD_CODE),
             start: 0,
             words: 0,
         };
     }
     if dynamic & one & lone {
         return Plan {
-            first: ARRAY,
-            second: 0,
+            first: Some(ARRAY),
+            second: None,
             start: 1,
             words: 1,
         };
     }
     Plan {
         first: tuple_code(last + 1),
-        second: 0,
+        second: None,
         start: 0,
         words: last + 1,
     }
@@ -104,7 +104,7 @@ fn kind_plan(facts: &Facts, r: u32, kids: Children) -> Plan
     let kind = facts.kind(r);
     if kind == KIND_ARRAY {
         return Plan {
-            first: ARRAY,
+            first: Some(ARRAY),
             second: tuple_code(last),
             start: 1,
             words: last,
@@ -123,8 +123,8 @@ pub fn plan_of(facts: &Facts, r: u32) -> Plan
     let kids = seen_children(facts, r);
     if name_holds(facts, r, kids.count == 0) {
         return Plan {
-            first: facts.name(r),
-            second: 0,
+            first: Some(facts.name(r)),
+            second: None,
             start: 0,
             words: 0,
         };

@@ -19,24 +19,24 @@ use paths::Facts;
 const KEY_END: u32 = u32::MAX;
 
 // The one code of a word at whose key the record c stands: uint256 where it is not seen; the name of a fact with no
-// child and no kind, or uint256 without one. 0 for any other.
+// child and no kind, or uint256 without one.
 #[tactic(auto, unfolding(crate::specs::Plan::leaf_code))]
-pub fn leaf_code(facts: &Facts, c: u32) -> u32
+pub fn leaf_code(facts: &Facts, c: u32) -> Option<u32>
     requires sound { Sound facts.now.table.now facts.now.used facts.now.records }
     requires le_c { (1 ≤ c) × (c ≤ facts.now.used) }
     ensures { result ≡ leaf_code (facts_of facts.now) c }
 {
     if !facts.is_seen(c) {
-        return WORD_CODE;
+        return Some(WORD_CODE);
     }
     if (facts.child(c) != 0) | (facts.kind(c) != 0) {
-        return 0;
+        return None;
     }
     let name = facts.name(c);
     if name == NO_NAME {
-        return WORD_CODE;
+        return Some(WORD_CODE);
     }
-    name
+    Some(name)
 }
 
 // Writes the words from start on that stand before the child to look at: each has uint256.

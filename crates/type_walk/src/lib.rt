@@ -8,11 +8,11 @@ mod write;
 
 pub use write::write_words;
 
-// How the codes of a fact's type are written: one or two codes ahead, 0 for none, and then those of some of its words.
+// How the codes of a fact's type are written: two codes ahead at most, and then those of some of its words.
 #[derive(Clone, Copy)]
 pub struct Plan {
-    pub first: u32,
-    pub second: u32,
+    pub first: Option<u32>,
+    pub second: Option<u32>,
     pub start: u32,
     pub words: u32,
 }

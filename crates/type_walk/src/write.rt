@@ -1,5 +1,6 @@
 // The walk.
 ghost use Rattle.std.specs.Prelude.{◌≡◌, ◌+◌, ◌^◌, ◌≤◌, ◌<◌, length};
+ghost use Rattle.std.specs.Option.{ForSome};
 ghost use Rattle.std.proofs.lemmas.List.Edits.{sets};
 ghost use Rattle.limits.specs.Limits.{types_room};
 ghost use Rattle.paths.specs.Lent.{facts_of};
@@ -15,21 +16,23 @@ use crate::{Plan, Rest};
 use limits::WORD_BYTES;
 use paths::Facts;
 
-// Stores a code, unless it is 0, and answers the index behind it.
-fn put_code(types: &mut [u16], at: usize, code: u32) -> usize
-    requires { (code < 2 ^ 16) × (at + length (lead code) ≤ length types.old) }
+// Stores a code, if there is one, and answers the index behind it.
+fn put_code(types: &mut [u16], at: usize, code: Option<u32>) -> usize
+    requires code_bound { ForSome code (λ c. c < 2 ^ 16) }
+    requires code_in_bounds { at + length (lead code) ≤ length types.old }
     ensures { (types.new ≡ sets types.old at (lead code)) × (result ≡ at + length (lead code)) }
 {
-    if code == 0 {
+    let Some(code) = code else {
         return at;
-    }
+    };
     types[at] = code as u16;
     at + 1
 }
 
 // Stores what stands ahead.
 fn put_plan(types: &mut [u16], at: usize, plan: Plan) -> usize
-    requires first_bound { (plan.first < 2 ^ 16) × (plan.second < 2 ^ 16) }
+    requires first_bound { ForSome plan.first (λ c. c < 2 ^ 16) }
+    requires second_bound { ForSome plan.second (λ c. c < 2 ^ 16) }
     requires plan_in_bounds { at + length (leads plan) ≤ length types.old }
     ensures { (types.new ≡ sets types.old at (leads plan))
         × (result ≡ at + length (leads plan)) }
@@ -46,20 +49,23 @@ fn write_ahead(facts: &Facts, c: u32, types: &mut [u16], at: usize) -> Rest
     requires types_room_in_bounds { types_room ≤ length types.old }
     ensures { Led (facts_of facts.now) c types.old at types.new result }
 {
-    let code = leaf_code(facts, c);
-    if code != 0 {
-        types[at] = code as u16;
-        return Rest {
-            start: 0,
-            words: 0,
-            to: at + 1,
-        };
-    }
-    let plan = plan_of(facts, c);
-    Rest {
-        start: plan.start,
-        words: plan.words,
-        to: put_plan(types, at, plan),
+    match leaf_code(facts, c) {
+        Some(code) => {
+            types[at] = code as u16;
+            Rest {
+                start: 0,
+                words: 0,
+                to: at + 1,
+            }
+        }
+        None => {
+            let plan = plan_of(facts, c);
+            Rest {
+                start: plan.start,
+                words: plan.words,
+                to: put_plan(types, at, plan),
+            }
+        }
     }
 }
 
