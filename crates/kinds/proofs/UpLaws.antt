@@ -4,7 +4,7 @@ use borrow.Author.Tests.{eq-eqb, ne_eqb}
 use Rattle.limits.specs.Limits.{kind_array}
 use Rattle.facts.specs.Links.{In}
 use Rattle.facts.specs.State.{Node, node_of}
-use Rattle.paths.specs.Chain.{ups, upward}
+use Rattle.paths.specs.Walking.{ups, upward}
 use Rattle.paths.proofs.Climbing.{ups_length}
 use Rattle.kinds.specs.Kinds.{arrays_up, arrays_in_path}
 

@@ -8,7 +8,7 @@ use Rattle.facts.specs.Linked.{Linked, kids_of}
 use Rattle.facts.proofs.Chains.{rising_low}
 use Rattle.facts.proofs.Encode.{kids_nodes}
 use Rattle.facts.proofs.Kids.{chain_kids, kids_rising, kids_in_lem, in_kids}
-use Rattle.paths.specs.Chain.{from_on}
+use Rattle.paths.specs.Walking.{from_on}
 
 from_here : (x y : ℕ) (ys : List ℕ) → x ≡ y → from_on x (y ∷ ys) ≡ y ∷ ys
 from_here x y ys e = rw (eq-eqb x y e) refl

@@ -6,7 +6,7 @@ use Rattle.facts.specs.Links.{In}
 use Rattle.facts.specs.State.{Node, nodes, node_of}
 use Rattle.facts.proofs.Encode.{nodes_get}
 use Rattle.paths.specs.Shape.{Shaped}
-use Rattle.paths.specs.Chain.{ups, upward}
+use Rattle.paths.specs.Walking.{ups, upward}
 use Rattle.paths.specs.Depth.{depth_up}
 
 pub ups_end : (n : ℕ) (s : List Node) (r : ℕ) → r ≡ 0 → ups n s r ≡ []

@@ -6,7 +6,7 @@ pub mod Represents
 pub mod Place
 pub mod Order
 pub mod Depth
-pub mod Chain
+pub mod Walking
 pub mod Adds
 pub mod Path
 pub mod Looking

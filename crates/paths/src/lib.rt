@@ -1,7 +1,7 @@
 // The paths of a table: looked up, made, and made seen. specs/ has what that does to the facts that a table stands for.
 #![tactic(auto)]
 
-mod children;
+mod chain;
 mod depth;
 mod find;
 mod insert;
@@ -12,7 +12,7 @@ mod node;
 mod seen;
 mod upward;
 
-pub use children::Children;
+pub use chain::Chain;
 pub use insert::Spot;
 pub use lent::Facts;
 pub use upward::Upward;

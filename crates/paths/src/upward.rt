@@ -14,7 +14,7 @@ pub struct Upward<'f, 'a> {
 impl Facts<'_> {
     ghost use Rattle.std.specs.Prelude.{◌≡◌};
     ghost use Rattle.paths.specs.Lent.{facts_of};
-    ghost use Rattle.paths.specs.Chain.{upward, upward_left};
+    ghost use Rattle.paths.specs.Walking.{upward, upward_left};
 
     pub fn upward(&self, r: u32) -> Upward<'_, '_>
         requires { r ≤ self.now.used }
@@ -29,7 +29,7 @@ impl Facts<'_> {
 
 impl Iterator for Upward<'_, '_> {
     ghost use Rattle.std.specs.Iterator.{YieldsFirst, item_count};
-    ghost use Rattle.paths.specs.Chain.{upward_left};
+    ghost use Rattle.paths.specs.Walking.{upward_left};
 
     type Item = u32;
 

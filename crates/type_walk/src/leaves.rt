@@ -33,10 +33,8 @@ pub fn leaf_code(facts: &Facts, c: u32) -> Option<u32>
         return None;
     }
     let name = facts.name(c);
-    if name == NO_NAME {
-        return Some(WORD_CODE);
-    }
-    Some(name)
+    let code = if name == NO_NAME { WORD_CODE } else { name };
+    Some(code)
 }
 
 // Writes the words from start on that stand before the child to look at: each has uint256.

@@ -1,11 +1,11 @@
 use Rattle.std.proofs.Common.{arith, sym, ap, ◌∙◌}
-use Rattle.paths.specs.Chain.{children_left}
+use Rattle.paths.specs.Walking.{chain_left}
 use Rattle.paths.proofs.Chaining.{left_kid}
 use Rattle.closing.proofs.WordLaws.{seeking_start, seeking_kid, seeking_second, seeking_first, seeking_next, seeking_done}
 use Rattle.closing.proofs.words.dynamic_args.Goals as goal
 
 pub loop-child-init : goal.loop-child-init
-loop-child-init c = seeking_start _ _ (ap children_left c.into_iter-child-iterator.ensures.into_iter_gives ∙ c.children-child-items.ensures)
+loop-child-init c = seeking_start _ _ (ap chain_left c.into_iter-child-iterator.ensures.into_iter_gives ∙ c.children-child-items.ensures)
 
 pub has_dynamic-requires : goal.has_dynamic-requires
 has_dynamic-requires c =

@@ -1,5 +1,5 @@
 use Rattle.std.proofs.Common.{sym, ap, ◌∙◌, arith}
-use Rattle.paths.specs.Chain.{children_left}
+use Rattle.paths.specs.Walking.{chain_left}
 use Rattle.paths.proofs.Chaining.{left_kid}
 use Rattle.kinds.proofs.DynamicLaws.{dynamic_unseen, dynamic_here, dynamic_kids, seeking_start, seeking_kid, seeking_found, seeking_next, seeking_done}
 use Rattle.kinds.proofs.dynamic.+has_dynamic.Goals as goal
@@ -12,7 +12,7 @@ returns-then-kind-ne0 t c =
     dynamic_here _ _ _ c.requires.0 c.requires.1 (sym c.is_seen.ensures ∙ c.if-not-is_seen.false) (λ z. c.if-kind-ne0.true (c.kind.ensures ∙ z))
 
 pub loop-c-init : goal.loop-c-init
-loop-c-init t c = seeking_start _ _ _ (ap children_left c.into_iter-c-iterator.ensures.into_iter_gives ∙ c.children-c-items.ensures)
+loop-c-init t c = seeking_start _ _ _ (ap chain_left c.into_iter-c-iterator.ensures.into_iter_gives ∙ c.children-c-items.ensures)
 
 pub has_dynamic-requires : goal.has_dynamic-requires
 has_dynamic-requires t c =

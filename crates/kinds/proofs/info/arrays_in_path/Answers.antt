@@ -1,5 +1,5 @@
 use Rattle.std.proofs.Common.{sym, ap, ◌∙◌, arith}
-use Rattle.paths.specs.Chain.{upward_left}
+use Rattle.paths.specs.Walking.{upward_left}
 use Rattle.paths.proofs.Climbing.{upward_in}
 use Rattle.kinds.proofs.UpLaws.{counting_start, counting_in, counting_fits, counting_array, counting_other, counting_done}
 use Rattle.kinds.proofs.info.arrays_in_path.Goals as goal

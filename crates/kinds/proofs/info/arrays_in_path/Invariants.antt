@@ -1,5 +1,5 @@
 use Rattle.paths.specs.Lent.{facts_of}
-use Rattle.paths.specs.Chain.{upward_left}
+use Rattle.paths.specs.Walking.{upward_left}
 use Rattle.kinds.proofs.UpLaws.{Counting}
 use Rattle.kinds.proofs.info.arrays_in_path.Given as goal
 

@@ -1,12 +1,12 @@
 use Rattle.std.proofs.Common.{sym, ap, ◌∙◌, arith, eqb-true}
 use borrow.Author.Tests.{eqb-false}
-use Rattle.paths.specs.Chain.{children_left}
+use Rattle.paths.specs.Walking.{chain_left}
 use Rattle.paths.proofs.Chaining.{left_kid}
 use Rattle.list.proofs.ChildrenLaws.{unmet_start, unmet_kid, unmet_met, unmet_next, unmet_done}
 use Rattle.list.proofs.seen.is_childless.Goals as goal
 
 pub loop-child-init : goal.loop-child-init
-loop-child-init c = unmet_start _ _ _ (ap children_left c.into_iter-child-iterator.ensures.into_iter_gives ∙ c.children-child-items.ensures)
+loop-child-init c = unmet_start _ _ _ (ap chain_left c.into_iter-child-iterator.ensures.into_iter_gives ∙ c.children-child-items.ensures)
 
 pub is_seen-requires : goal.is_seen-requires
 is_seen-requires c =

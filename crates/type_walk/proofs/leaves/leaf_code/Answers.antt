@@ -11,7 +11,7 @@ returns-then-name-eq-NO_NAME c =
     leaf_unnamed _ _ _ _ c.requires.sound c.requires.le_c.0 c.requires.le_c.1 _ _ c.child.ensures c.kind.ensures _ c.is_seen.ensures
     c.if-not-is_seen.false c.if-child-kind.false _ c.name-name.ensures c.if-name-eq-NO_NAME.true
 
-pub returns : goal.returns
-returns c =
+pub returns-else-name-eq-NO_NAME : goal.returns-else-name-eq-NO_NAME
+returns-else-name-eq-NO_NAME c =
     leaf_named _ _ _ _ c.requires.sound c.requires.le_c.0 c.requires.le_c.1 _ _ c.child.ensures c.kind.ensures _ c.is_seen.ensures
     c.if-not-is_seen.false c.if-child-kind.false _ c.name-name.ensures c.if-name-eq-NO_NAME.false

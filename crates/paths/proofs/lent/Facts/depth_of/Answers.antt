@@ -1,6 +1,6 @@
 use Rattle.std.proofs.Common.{arith, inl, ap, length}
 use Rattle.std.proofs.lemmas.Iterator.Consumers.{YieldsList-from_first, count_from_yields_List}
-use Rattle.paths.specs.Chain.{upward_left}
+use Rattle.paths.specs.Walking.{upward_left}
 use Rattle.paths.specs.Lent.{facts_of}
 use Rattle.paths.specs.Depth.{depth_of}
 use Rattle.paths.proofs.Climbing.{ups_length, ups_depth}

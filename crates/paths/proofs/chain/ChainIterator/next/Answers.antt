@@ -1,6 +1,6 @@
 use Rattle.std.proofs.Common.{length, ap, arith}
 use Rattle.paths.proofs.Chaining.{left_none, left_more}
-use Rattle.paths.proofs.children.ChildrenIterator.next.Goals as goal
+use Rattle.paths.proofs.chain.ChainIterator.next.Goals as goal
 
 pub returns-then-self-eq0-clause-steps : goal.returns-then-self-eq0-clause-steps
 returns-then-self-eq0-clause-steps c =

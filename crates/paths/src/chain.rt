@@ -1,12 +1,12 @@
-// The children of a path.
+// A chain of children.
 ghost use Rattle.std.specs.Prelude.{◌≡◌, ◌≤◌, ◌≢◌};
 ghost use Rattle.facts.specs.Links.{Kid};
 
 use crate::Facts;
 
-// Gives the children of a path, seen or not, by rising key. next is 0 behind the last.
+// Gives the children of a path, which form a chain, seen or not, by rising key. next is 0 behind the last.
 #[derive(Drop)]
-pub struct Children<'f, 'a> {
+pub struct Chain<'f, 'a> {
     facts: &'f Facts<'a>,
     parent: u32,
     next: u32,
@@ -17,13 +17,13 @@ pub struct Children<'f, 'a> {
 impl Facts<'_> {
     ghost use Rattle.facts.specs.State.{kids_in};
     ghost use Rattle.paths.specs.Lent.{facts_of};
-    ghost use Rattle.paths.specs.Chain.{children_left};
+    ghost use Rattle.paths.specs.Walking.{chain_left};
 
-    pub fn children(&self, r: u32) -> Children<'_, '_>
+    pub fn children(&self, r: u32) -> Chain<'_, '_>
         requires { (1 ≤ r) × (r ≤ self.now.used) }
-        ensures { children_left result ≡ kids_in (facts_of self.now) r }
+        ensures { chain_left result ≡ kids_in (facts_of self.now) r }
     {
-        Children {
+        Chain {
             facts: self,
             parent: r,
             next: self.child(r),
@@ -31,15 +31,15 @@ impl Facts<'_> {
     }
 }
 
-impl Iterator for Children<'_, '_> {
+impl Iterator for Chain<'_, '_> {
     ghost use Rattle.std.specs.Iterator.{YieldsFirst, item_count};
-    ghost use Rattle.paths.specs.Chain.{children_left};
+    ghost use Rattle.paths.specs.Walking.{chain_left};
 
     type Item = u32;
 
-    ghost next_gives = { YieldsFirst children_left };
+    ghost next_gives = { YieldsFirst chain_left };
 
-    ghost remaining = { item_count children_left };
+    ghost remaining = { item_count chain_left };
 
     fn next(&mut self) -> Option<u32> {
         if self.next == 0 {

@@ -2,7 +2,7 @@
 use Rattle.std.specs.Prelude.{ℕ, zero, suc, cond, eqb, List, [], ◌∷◌}
 use Rattle.facts.specs.State.{Node, node_of, kids_in}
 use Rattle.paths.specs.Lent.{facts_of}
-use Rattle.paths.specs.declared.children.Children.{Children}
+use Rattle.paths.specs.declared.chain.Chain.{Chain}
 use Rattle.paths.specs.declared.upward.Upward.{Upward}
 
 -- the list from x on, nothing where x is not in it
@@ -11,8 +11,8 @@ from_on x [] = []
 from_on x (y ∷ ys) = cond (eqb x y) (y ∷ ys) (from_on x ys)
 
 -- the children that an iterator over them has not given yet
-abbrev pub children_left : Children → List ℕ
-children_left c = from_on c.next (kids_in (facts_of c.facts.now) c.parent)
+abbrev pub chain_left : Chain → List ℕ
+chain_left c = from_on c.next (kids_in (facts_of c.facts.now) c.parent)
 
 -- the node r and each that its path continues, up to the root; n is as many turns as that can take
 unfoldable pub ups : ℕ → List Node → ℕ → List ℕ
