@@ -27,7 +27,6 @@ use Rattle.labels.specs.declared.Val.{Val}
 use Rattle.labels.specs.declared.Label.{Label}
 use Rattle.labels.specs.declared.Step.{Step}
 use Rattle.labels.specs.declared.Choice.{Choice}
-use Rattle.labels.specs.declared.Pattern.TheVariants as pattern
 use Rattle.labels.specs.Operands.{is_length, is_unmasked_length, choose}
 use Rattle.operations.specs.declared.Operation.{Operation}
 use Rattle.operations.specs.declared.Operation.TheVariants.{Nothing, MarkNotBool, SetArray}
@@ -125,8 +124,8 @@ module _ (s : List Node) (O : Ordered s) (Fits Slot : Type 0) (pick : ℕ) where
     pub proper_mul : P (mul s x)
     unfolding mul
     proper_mul =
-        proper_mul_by (choose pattern.Length x.first x.second) (choose pattern.Any x.first x.second)
-        (step_choice (length s) x pattern.Length R) (step_choice (length s) x pattern.Any R) slot
+        proper_mul_by (choose is_length x.first x.second) (choose (λ v. true) x.first x.second)
+        (step_choice (length s) x is_length R) (step_choice (length s) x (λ v. true) R) slot
 
     pub proper_shl : (active : Bool) (bytes : List ℕ) → P (shl s active bytes x)
     unfolding shl shl_of
@@ -143,8 +142,8 @@ module _ (s : List Node) (O : Ordered s) (Fits Slot : Type 0) (pick : ℕ) where
     pub proper_compare : P (compare s x)
     unfolding compare
     proper_compare =
-        let general = choose pattern.Any x.first x.second in
-        let G = step_choice (length s) x pattern.Any R in
+        let general = choose (λ v. true) x.first x.second in
+        let G = step_choice (length s) x (λ v. true) R in
         cond_has P (eqb x.op LT) _ _
         (proper_compare_with x.second.label (value_of x.first.word) general R.second G slot)
         (proper_compare_with x.first.label (value_of x.second.word) general R.first G slot)

@@ -17,7 +17,6 @@ use Rattle.labels.specs.declared.Label.{Label}
 use Rattle.labels.specs.declared.Label.TheVariants.{Unlabelled, CallData, Arg, IsZeroResult}
 use Rattle.labels.specs.declared.Step.{Step}
 use Rattle.labels.specs.declared.Choice.{Choice}
-use Rattle.labels.specs.declared.Pattern.TheVariants as pattern
 use Rattle.labels.specs.Operands.{on_arg, choose}
 use Rattle.operations.specs.declared.Operation.{Operation}
 use Rattle.operations.specs.declared.Operation.TheVariants.{Nothing, GetOrCreate}
@@ -109,5 +108,5 @@ module _ (u : ℕ) (some : 1 ≤ u) (Fits Slot : Type 0) (x : Step) where
       arg_has P u x.first.label _ _ R.first
       (λ f F. arg_has P u x.second.label _ _ R.second (λ g G. proper_add_both s f g F G slot) lone) lone
     where
-      lone : P (add_one (choose pattern.Any x.first x.second))
-      lone = proper_add_one (choose pattern.Any x.first x.second) (step_choice u x pattern.Any R) slot
+      lone : P (add_one (choose (λ v. true) x.first x.second))
+      lone = proper_add_one (choose (λ v. true) x.first x.second) (step_choice u x (λ v. true) R) slot

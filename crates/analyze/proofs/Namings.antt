@@ -19,7 +19,6 @@ use Rattle.labels.specs.declared.Label.{Label}
 use Rattle.labels.specs.declared.Label.TheVariants.{Unlabelled, CallData, Arg, IsZeroResult}
 use Rattle.labels.specs.declared.Step.{Step}
 use Rattle.labels.specs.declared.Choice.{Choice}
-use Rattle.labels.specs.declared.Pattern.TheVariants as pattern
 use Rattle.labels.specs.Operands.{choose, is_unmasked, same_arg}
 use Rattle.operations.specs.Asks.{IsUsed}
 use Rattle.analyze.specs.declared.OnStack.TheVariants as stack
@@ -110,11 +109,11 @@ module _ (u : ℕ) (Fits Slot : Type 0) (pick : ℕ) where
 
     pub proper_signed : P (signed x)
     unfolding signed
-    proper_signed = proper_signed_first (choose pattern.Any x.first x.second) (step_choice u x pattern.Any R)
+    proper_signed = proper_signed_first (choose (λ v. true) x.first x.second) (step_choice u x (λ v. true) R)
 
     pub proper_and : Slot → P (and x)
     unfolding and
-    proper_and = proper_and_first (choose pattern.NoMask x.first x.second) (step_choice u x pattern.NoMask R)
+    proper_and = proper_and_first (choose (λ v. is_unmasked v.and_mask) x.first x.second) (step_choice u x (λ v. is_unmasked v.and_mask) R)
 
     pub proper_eq : P (eq x)
     unfolding eq

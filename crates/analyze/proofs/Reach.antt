@@ -10,8 +10,7 @@ use Rattle.labels.specs.declared.Label.TheVariants.{Unlabelled, CallData, Arg, I
 use Rattle.labels.specs.declared.Element.{Element}
 use Rattle.labels.specs.declared.Step.{Step}
 use Rattle.labels.specs.declared.Choice.{Choice}
-use Rattle.labels.specs.declared.Pattern.{Pattern}
-use Rattle.labels.specs.Operands.{on_arg, passes, choose}
+use Rattle.labels.specs.Operands.{on_arg, choose}
 use Rattle.operations.specs.Asks.{IsUsed}
 use Rattle.analyze.specs.Ready.{LabelReaches, StepReaches, ChoiceReaches}
 
@@ -27,20 +26,20 @@ or_reaches u test (Arg v) own other d L O D = go (test v)
     go true = (L, O)
     go false = D
 
-pub choice_reaches : (u : ℕ) (p : Pattern) (a b : Element) → LabelReaches u a.label → LabelReaches u b.label
-    → ChoiceReaches u (choose p a b)
+pub choice_reaches : (u : ℕ) (test : Val → Bool) (a b : Element) → LabelReaches u a.label → LabelReaches u b.label
+    → ChoiceReaches u (choose test a b)
 unfolding choose
-choice_reaches u p a b A B =
-    or_reaches u (passes p) a.label a.word b _ A B (or_reaches u (passes p) b.label b.word a None B A tt)
+choice_reaches u test a b A B =
+    or_reaches u test a.label a.word b _ A B (or_reaches u test b.label b.word a None B A tt)
 
 -- what is chosen of a step's operands is one of theirs
-pub step_choice : (u : ℕ) (x : Step) (p : Pattern) → StepReaches u x
-    → ChoiceReaches u (choose p x.first x.second)
-step_choice u x p R = choice_reaches u p x.first x.second R.first R.second
+pub step_choice : (u : ℕ) (x : Step) (test : Val → Bool) → StepReaches u x
+    → ChoiceReaches u (choose test x.first x.second)
+step_choice u x test R = choice_reaches u test x.first x.second R.first R.second
 
-pub given_choice : (u : ℕ) (x : Step) (p : Pattern) (k : Option Choice) → k ≡ choose p x.first x.second
+pub given_choice : (u : ℕ) (x : Step) (test : Val → Bool) (k : Option Choice) → k ≡ choose test x.first x.second
     → StepReaches u x → ChoiceReaches u k
-given_choice u x p k e R = subst (ChoiceReaches u) (sym e) (step_choice u x p R)
+given_choice u x test k e R = subst (ChoiceReaches u) (sym e) (step_choice u x test R)
 
 pub chosen_reaches : (u : ℕ) (o : Option Choice) (k : Choice) → o ≡ Some k → ChoiceReaches u o → IsUsed u k.val.path
 chosen_reaches u o k q R = (subst (ChoiceReaches u) q R).0

@@ -17,7 +17,6 @@ use Rattle.labels.specs.declared.Val.{Val}
 use Rattle.labels.specs.declared.Label.{Label}
 use Rattle.labels.specs.declared.Step.{Step}
 use Rattle.labels.specs.declared.Choice.{Choice}
-use Rattle.labels.specs.declared.Pattern.TheVariants as pattern
 use Rattle.labels.specs.Operands.{on_arg, choose, is_length, is_unmasked_length}
 use Rattle.operations.specs.declared.Operation.{Operation}
 use Rattle.operations.specs.declared.Operation.TheVariants.{Nothing, MarkNotBool, SetTname, SetArray}
@@ -65,7 +64,7 @@ mul_by s (Some k) general = multiply s k.val.path k.other.label (value_of k.othe
 mul_by s None general = mark_first s general
 
 unfoldable pub mul : List Node → Step → Plan
-mul s x = mul_by s (choose pattern.Length x.first x.second) (choose pattern.Any x.first x.second)
+mul s x = mul_by s (choose is_length x.first x.second) (choose (λ v. true) x.first x.second)
 
 -- does `guard_failure_pc` name a place?
 abbrev pub is_place : Option ℕ → Bool
@@ -110,7 +109,7 @@ compare_with s l bound general =
 
 unfoldable pub compare : List Node → Step → Plan
 compare s x =
-    let general = choose pattern.Any x.first x.second in
+    let general = choose (λ v. true) x.first x.second in
     cond (eqb x.op LT)
     (compare_with s x.second.label (value_of x.first.word) general)
     (compare_with s x.first.label (value_of x.second.word) general)

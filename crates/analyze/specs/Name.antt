@@ -14,7 +14,6 @@ use Rattle.labels.specs.declared.Label.{Label}
 use Rattle.labels.specs.declared.Label.TheVariants.{Unlabelled, CallData, Arg, IsZeroResult}
 use Rattle.labels.specs.declared.Step.{Step}
 use Rattle.labels.specs.declared.Choice.{Choice}
-use Rattle.labels.specs.declared.Pattern.TheVariants as pattern
 use Rattle.labels.specs.Operands.{on_arg, is_unmasked, choose, same_arg}
 use Rattle.analyze.specs.declared.OnStack.TheVariants as stack
 use Rattle.analyze.specs.declared.Plan.{Plan}
@@ -55,7 +54,7 @@ signed_first None = nothing
 signed_first (Some k) = mark_and_name k.val (code.int + 256) by_sdiv_or_smod
 
 unfoldable pub signed : Step → Plan
-signed x = signed_first (choose pattern.Any x.first x.second)
+signed x = signed_first (choose (λ v. true) x.first x.second)
 
 -- the label with that mask
 abbrev pub with_mask : Val → U256 → Label
@@ -74,7 +73,7 @@ and_first None = nothing
 and_first (Some k) = masked k.val k.other.word (and_mask_to_type (value_of k.other.word))
 
 unfoldable pub and : Step → Plan
-and x = and_first (choose pattern.NoMask x.first x.second)
+and x = and_first (choose (λ v. is_unmasked v.and_mask) x.first x.second)
 
 -- EQ of an argument v and the same one masked, w: the mask's type
 unfoldable pub eq_masked : Val → Val → Option U256 → Plan

@@ -1,5 +1,5 @@
 -- ADD.
-use Rattle.std.specs.Prelude.{ℕ, ◌+◌, ◌-◌, ◌^◌, Bool, cond, not, ◌&&◌, List, eqb, ltb, Option, Some, None}
+use Rattle.std.specs.Prelude.{ℕ, ◌+◌, ◌-◌, ◌^◌, Bool, true, cond, not, ◌&&◌, List, eqb, ltb, Option, Some, None}
 use Rattle.word.specs.Value.{value_of}
 use Rattle.word.specs.Arithmetic.{sum_of}
 use Rattle.word.specs.Kept.{kept_of}
@@ -11,7 +11,6 @@ use Rattle.labels.specs.declared.Label.{Label}
 use Rattle.labels.specs.declared.Label.TheVariants.{Arg}
 use Rattle.labels.specs.declared.Step.{Step}
 use Rattle.labels.specs.declared.Choice.{Choice}
-use Rattle.labels.specs.declared.Pattern.TheVariants as pattern
 use Rattle.labels.specs.Operands.{on_arg, choose, is_length}
 use Rattle.analyze.specs.declared.OnStack.{OnStack}
 use Rattle.analyze.specs.declared.OnStack.TheVariants as stack
@@ -59,5 +58,5 @@ add_one (Some k) = with_stack (one_operation (mark k.val)) (add_constant k.val k
 
 unfoldable pub add : List Node → Step → Plan
 add s x =
-    let lone = add_one (choose pattern.Any x.first x.second) in
+    let lone = add_one (choose (λ v. true) x.first x.second) in
     on_arg x.first.label (λ f. on_arg x.second.label (λ g. add_both s f g) lone) lone

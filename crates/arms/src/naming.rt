@@ -8,7 +8,7 @@ ghost use Rattle.analyze.specs.Name.{eq_masked, eq_both, eq, zero_tested, is_zer
 use crate::plans::{and_stack, mark_and_name, nothing, one_operation};
 use analyze::{OnStack, Plan};
 use code::{guard_failure_pc, is_division_check};
-use labels::{Choice, Label, Pattern, Step, Val, choose, is_unmasked, same_arg};
+use labels::{Choice, Label, Step, Val, choose, is_unmasked, same_arg};
 use limits::codes::{ADDRESS, BOOL, FIXED_BYTES, INT, NO_NAME, UINT};
 use limits::confidences::{BY_AND_OR_ISZERO, BY_BYTE, BY_MSTORE8, BY_SDIV_OR_SMOD, BY_THE_REST};
 use limits::{ADDRESS_BITS, WORD_BYTES};
@@ -84,7 +84,7 @@ pub fn shr(active: bool, code: &[u8], step: Step) -> Plan
 pub fn signed(step: Step) -> Plan
     ensures { result ≡ signed step }
 {
-    let Some(Choice { val, .. }) = choose(Pattern::Any, step.first, step.second) else {
+    let Some(Choice { val, .. }) = choose(|_| true, step.first, step.second) else {
         return nothing();
     };
     mark_and_name(val, INT + 256, BY_SDIV_OR_SMOD)
@@ -118,7 +118,11 @@ fn masked(val: Val, mask: U256, name: u32) -> Plan
 pub fn and(step: Step) -> Plan
     ensures { result ≡ and step }
 {
-    let Some(Choice { val, other, .. }) = choose(Pattern::NoMask, step.first, step.second) else {
+    let Some(Choice { val, other, .. }) = choose(
+        |val| is_unmasked(val.and_mask),
+        step.first,
+        step.second,
+    ) else {
         return nothing();
     };
     masked(val, other.word, and_mask_to_type(other.word))

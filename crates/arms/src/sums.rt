@@ -9,7 +9,7 @@ ghost use Rattle.analyze.specs.Ready.{StepReaches};
 
 use crate::plans::{and_stack, nothing};
 use analyze::{OnStack, Plan};
-use labels::{Choice, Label, Pattern, Step, Val, choose, is_length};
+use labels::{Choice, Label, Step, Val, choose, is_length};
 use operations::Operation;
 use paths::Facts;
 use word::U256;
@@ -122,6 +122,6 @@ pub fn add(facts: &Facts, step: Step) -> Plan
 {
     match (step.first.label, step.second.label) {
         (Label::Arg(f), Label::Arg(g)) => add_both(facts, f, g),
-        _ => add_one(choose(Pattern::Any, step.first, step.second)),
+        _ => add_one(choose(|_| true, step.first, step.second)),
     }
 }

@@ -1,12 +1,10 @@
 -- What a step asks of its operands: the Rust's patterns `elabel!` and `match_first_two!`.
-use Rattle.std.specs.Prelude.{ℕ, Bool, true, false, cond, ◌&&◌, eqb, Option, Some, None}
+use Rattle.std.specs.Prelude.{◌≡◌, ℕ, Bool, true, false, cond, ◌&&◌, eqb, Option, Some, None}
 use Rattle.word.specs.declared.U256.{U256}
 use Rattle.labels.specs.declared.Label.{Label}
 use Rattle.labels.specs.declared.Label.TheVariants.{Unlabelled, CallData, Arg, IsZeroResult}
 use Rattle.labels.specs.declared.Val.{Val}
 use Rattle.labels.specs.declared.Element.{Element}
-use Rattle.labels.specs.declared.Pattern.{Pattern}
-use Rattle.labels.specs.declared.Pattern.TheVariants as pattern
 use Rattle.labels.specs.declared.Choice.{Choice}
 
 -- f of what an argument's label says; otherwise d
@@ -37,19 +35,18 @@ is_length v = eqb v.offset 0 && eqb v.add_val 0
 unfoldable pub is_unmasked_length : Val → Bool
 is_unmasked_length v = is_length v && is_unmasked v.and_mask
 
--- does what a label says pass an arm's pattern? `and_mask: None` is the last
-unfoldable pub passes : Pattern → Val → Bool
-passes pattern.Any v = true
-passes pattern.Length v = is_length v
-passes pattern.NoMask v = is_unmasked v.and_mask
+-- a test in the code that answers as a definition does: `choose` promises its answer of those. No outcome is written
+-- with it
+abbrev pub AnswersAs : (Val → Bool → Type 0) → (Val → Bool) → Type 0
+AnswersAs answers test = (v : Val) (b : Bool) → answers v b → b ≡ test v
 
--- the operand e, if it is an argument that passes, beside the other one; otherwise d
-abbrev pub chosen_or : Pattern → Element → Element → Option Choice → Option Choice
-chosen_or p e other d = on_arg e.label (λ v. cond (passes p v) (Some (record { val = v; own = e.word; other = other })) d) d
+-- the operand e, if it is an argument that the test takes, beside the other one; otherwise d
+abbrev pub chosen_or : (Val → Bool) → Element → Element → Option Choice → Option Choice
+chosen_or test e other d = on_arg e.label (λ v. cond (test v) (Some (record { val = v; own = e.word; other = other })) d) d
 
--- `match_first_two!`: the first operand if it is an argument that passes, else the second if it is one
-unfoldable pub choose : Pattern → Element → Element → Option Choice
-choose p a b = chosen_or p a b (chosen_or p b a None)
+-- `match_first_two!`: the first operand if it is an argument that the test takes, else the second if it is one
+unfoldable pub choose : (Val → Bool) → Element → Element → Option Choice
+choose test a b = chosen_or test a b (chosen_or test b a None)
 
 -- do two labels speak of one argument with one constant added?
 unfoldable pub same_arg : Val → Val → Bool

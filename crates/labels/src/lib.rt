@@ -63,13 +63,3 @@ pub struct Choice {
     pub own: U256,
     pub other: Element,
 }
-
-// Which labels of an argument an arm's pattern takes: any, those with `offset: 0, add_val: 0`, those with `and_mask:
-// None`. With a closure in its place the contract of `choose` would speak of each test that the closure answers for: no
-// plainer than three cases.
-#[derive(Clone, Copy, Debug, PartialEq, Eq)]
-pub enum Pattern {
-    Any,
-    Length,
-    NoMask,
-}

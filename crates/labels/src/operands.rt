@@ -1,9 +1,9 @@
 // What a step asks of its operands' labels.
-ghost use Rattle.std.specs.Prelude.{◌≡◌};
-ghost use Rattle.labels.specs.Operands.{is_unmasked, is_length, is_unmasked_length, passes, choose, chosen_or};
+ghost use Rattle.std.specs.Prelude.{◌≡◌, Bool};
+ghost use Rattle.labels.specs.Operands.{is_unmasked, is_length, is_unmasked_length, AnswersAs, choose, chosen_or};
 ghost use Rattle.labels.specs.Operands.{same_arg, is_length_of};
 
-use crate::{Choice, Element, Label, Pattern, Val};
+use crate::{Choice, Element, Label, Val};
 use word::U256;
 
 pub fn is_unmasked(mask: Option<U256>) -> bool
@@ -28,23 +28,18 @@ pub fn is_unmasked_length(val: Val) -> bool
     is_length(val) & is_unmasked(val.and_mask)
 }
 
-// Does what a label says pass an arm's pattern?
-#[tactic(auto, unfolding(crate::specs::Operands::passes))]
-fn passes(pattern: Pattern, val: Val) -> bool
-    ensures { result ≡ passes pattern val }
-{
-    match pattern {
-        Pattern::Any => true,
-        Pattern::Length => is_length(val),
-        Pattern::NoMask => is_unmasked(val.and_mask),
-    }
-}
-
-fn chosen_or(pattern: Pattern, e: Element, other: Element, d: Option<Choice>) -> Option<Choice>
-    ensures { result ≡ chosen_or pattern e other d }
+// The operand e, if it is an argument that the test takes, beside the other one; otherwise d.
+fn chosen_or<F: Fn(Val) -> bool>(
+    takes: &F,
+    e: Element,
+    other: Element,
+    d: Option<Choice>,
+) -> Option<Choice>
+    requires { F.IsAlwaysCallable takes.now }
+    ensures { (test : Val → Bool) → AnswersAs (F.post takes.now) test → result ≡ chosen_or test e other d }
 {
     match e.label {
-        Label::Arg(val) if passes(pattern, val) => Some(Choice {
+        Label::Arg(val) if takes(val) => Some(Choice {
             val,
             own: e.word,
             other,
@@ -53,12 +48,13 @@ fn chosen_or(pattern: Pattern, e: Element, other: Element, d: Option<Choice>) ->
     }
 }
 
-// The first operand that is an argument and passes the pattern.
+// The first operand that is an argument that the test takes.
 #[tactic(auto, unfolding(crate::specs::Operands::choose))]
-pub fn choose(pattern: Pattern, a: Element, b: Element) -> Option<Choice>
-    ensures { result ≡ choose pattern a b }
+pub fn choose<F: Fn(Val) -> bool>(takes: F, a: Element, b: Element) -> Option<Choice>
+    requires { F.IsAlwaysCallable takes }
+    ensures { (test : Val → Bool) → AnswersAs (F.post takes) test → result ≡ choose test a b }
 {
-    chosen_or(pattern, a, b, chosen_or(pattern, b, a, None))
+    chosen_or(&takes, a, b, chosen_or(&takes, b, a, None))
 }
 
 // Do two labels speak of one argument with one constant added?

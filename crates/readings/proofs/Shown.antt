@@ -13,7 +13,7 @@ use Rattle.closing.specs.Words.{fill_words, filled}
 use Rattle.zeros.specs.Zeros.{all_to}
 use Rattle.labels.specs.Formed.{is_label}
 use Rattle.labels.specs.Label.{label_of}
-use Rattle.labels.specs.Operands.{is_length, passes, choose}
+use Rattle.labels.specs.Operands.{is_length, choose}
 use Rattle.labels.specs.Step.{step_of}
 use Rattle.opcode.specs.Lists.{listed, operand_clearers, decoder_enders, calls, slot_needers}
 use Rattle.word.specs.Multiplier.{is_array_mark, multiplier_of}
@@ -59,7 +59,7 @@ eleven : Shows 0 0 × Shows 1 0 × Shows 2 0 × Shows 3 0 × Shows 4 0 × Shows 
     × Shows 8 0 × Shows 8 1 × Shows 9 0 × Shows 10 0
 unfolding bench first_refusal call_by low_ones leading_ff bytes_of and_mask_to_type after after_all step-asks.sizes_fit
     step-asks.labels_fit step-asks.fields_fit step-asks.slot_there step-asks.room_there step-asks.step_tests answer_of
-    closing-asks.closing_tests fill_words filled all_to is_label label_of is_length passes choose step_of listed operand_clearers
+    closing-asks.closing_tests fill_words filled all_to is_label label_of is_length choose step_of listed operand_clearers
     decoder_enders calls slot_needers is_array_mark multiplier_of push_size_at direct_size direct_min_calldata_words run run_all
     plan_of run_plan analyze arm_by multiply mul is_whole_word arrays_off new_offset labelled_load is_followed unlabelled_load
     load mstore8 clear_operands hints_of range_rule active_after insert_not_bool mark_not_bool set_tname fill set_dynamic set_array depth_up depth_of
@@ -72,7 +72,7 @@ eleven = (refl, refl, refl, refl, refl, refl, refl, refl, refl, refl, refl, refl
 chain_64 : trace (chain_from 1 64) left_in ≡ left 8127
 unfolding bench first_refusal call_by low_ones leading_ff bytes_of and_mask_to_type after after_all step-asks.sizes_fit
     step-asks.labels_fit step-asks.fields_fit step-asks.slot_there step-asks.room_there step-asks.step_tests answer_of
-    closing-asks.closing_tests fill_words filled all_to is_label label_of is_length passes choose step_of listed operand_clearers
+    closing-asks.closing_tests fill_words filled all_to is_label label_of is_length choose step_of listed operand_clearers
     decoder_enders calls slot_needers is_array_mark multiplier_of push_size_at direct_size direct_min_calldata_words run run_all
     plan_of run_plan analyze arm_by multiply mul is_whole_word arrays_off new_offset labelled_load is_followed unlabelled_load
     load mstore8 clear_operands hints_of range_rule active_after insert_not_bool mark_not_bool set_tname fill set_dynamic set_array depth_up depth_of
@@ -84,7 +84,7 @@ chain_64 = refl
 chain_65 : trace (chain_from 1 65) left_in ≡ answer over
 unfolding bench first_refusal call_by low_ones leading_ff bytes_of and_mask_to_type after after_all step-asks.sizes_fit
     step-asks.labels_fit step-asks.fields_fit step-asks.slot_there step-asks.room_there step-asks.step_tests answer_of
-    closing-asks.closing_tests fill_words filled all_to is_label label_of is_length passes choose step_of listed operand_clearers
+    closing-asks.closing_tests fill_words filled all_to is_label label_of is_length choose step_of listed operand_clearers
     decoder_enders calls slot_needers is_array_mark multiplier_of push_size_at direct_size direct_min_calldata_words run run_all
     plan_of run_plan analyze arm_by multiply mul is_whole_word arrays_off new_offset labelled_load is_followed unlabelled_load
     load mstore8 clear_operands hints_of range_rule active_after insert_not_bool mark_not_bool set_tname fill set_dynamic set_array depth_up depth_of
