@@ -1,36 +1,43 @@
--- What the code's tests of labels answer is what the definitions say.
-use Prim.Native.Nat.{ℕ, zero, suc, ◌+◌, ◌≤◌, ◌<◌}
+-- `all` over the numbers below n answers as the definition does.
+use Prim.Native.Nat.{ℕ, zero, suc, ◌+◌}
 use mathlib.Core.Path.{◌≡◌, refl, sym, ap, ◌∙◌}
-use mathlib.Core.Bool.{Bool, true, false, ◌&&◌, and-false}
-use mathlib.Core.Logic.{⊎_elim}
-use native.Mathlib.Nat.{eq-or-lt_of_le}
+use mathlib.Core.List.{List}
+use mathlib.Core.Bool.{Bool, true, false, ◌&&◌, and-true}
 use native.Mathlib.Numerals.{add-one}
 use native.Mathlib.Omega.{arith}
+use denote.Param.Members.{Mut}
+use Rattle.std.specs.Prelude.{Option}
+use Rattle.std.specs.Fn.{Called}
+use Rattle.std.specs.Iterator.{YieldsThen}
+use Rattle.std.specs.List.{FoldsTo, list_all, range_with_len}
+use Rattle.std.specs.Option.{MatchOption}
+use Rattle.std.proofs.lemmas.Iterator.{YieldsList}
+use Rattle.std.proofs.lemmas.Iterator.Search.{all_from_yields_List}
 use Rattle.zeros.specs.Zeros.{all_to}
 
--- the first i pass, of n
-pub record Passed (test : ℕ → Bool) (n i : ℕ) : Type 0 where
-  pub within : i ≤ n
-  pub all : all_to test i ≡ true
+and_assoc : (a b c : Bool) → ((a && b) && c) ≡ (a && (b && c))
+and_assoc true b c = refl
+and_assoc false b c = refl
 
-pub passed_none : (test : ℕ → Bool) (n : ℕ) → Passed test n 0
+-- those below a, and n more
+and_more : (test : ℕ → Bool) (a n : ℕ) → (all_to test a && list_all test (range_with_len a n)) ≡ all_to test (a + n)
 unfolding all_to
-passed_none test n = record { within = omega arith; all = refl }
+and_more test a zero = let q : a + 0 ≡ a = omega arith in and-true (all_to test a) ∙ ap (all_to test) (sym q)
+and_more test a (suc n) =
+    let rest = list_all test (range_with_len (a + 1) n) in
+    let q : a + 1 + n ≡ a + suc n = omega arith in
+    sym (and_assoc (all_to test a) (test a) rest) ∙ ap (λ (k : ℕ). all_to test k && rest) (sym (add-one a))
+    ∙ and_more test (a + 1) n ∙ ap (all_to test) q
 
-pub passed_more : (test : ℕ → Bool) (n i : ℕ) → Passed test n i → i < n → test i ≡ true → Passed test n (i + 1)
+-- what `all` answered over the numbers below n, by a closure that answers as the test
+pub all_below : {S F : Type 0} {steps : S → Option ℕ → S → Type 0} {s : S} {g : Mut F (ℕ × Unit {0}) Bool} (test : ℕ → Bool) (n : ℕ) (u : S) (f : F) (r : Bool)
+    → (xs : List ℕ) × (o : Option ℕ) × (j : F) × YieldsThen steps s xs o u
+    × FoldsTo (λ p i q. Called g p (i, tt) true q) f xs j
+    × MatchOption o (r ≡ true) (λ i. (r ≡ false) × ((h : F) × Called g j (i, tt) false h))
+    → YieldsList steps (λ i. i) s (range_with_len 0 n)
+    → ((i : ℕ) (b : Bool) (q : F) → Called g f (i, tt) b q → (q ≡ f) × (b ≡ test i))
+    → r ≡ all_to test n
 unfolding all_to
-passed_more test n i P l e = record { within = omega arith; all = rw (add-one i) (simp (P.all, e)) }
-
--- one that doesn't pass
-pub stopped : (test : ℕ → Bool) (n i : ℕ) → i < n → test i ≡ false → false ≡ all_to test n
-unfolding all_to
-stopped test zero i l e = absurd (omega arith)
-stopped test (suc n) i l e =
-    ⊎_elim
-    (λ (q : i ≡ n). sym (ap (λ (b : Bool). all_to test n && b) (ap test (sym q) ∙ e) ∙ and-false (all_to test n)))
-    (λ (h : i < n). ap (λ (b : Bool). b && test n) (stopped test n i h e))
-    (eq-or-lt_of_le (let h : i ≤ n = omega arith in h))
-
--- the end is reached
-pub all_passed : (test : ℕ → Bool) (n i : ℕ) → Passed test n i → n ≤ i → true ≡ all_to test n
-all_passed test n i P h = let w = P.within in let q : i ≡ n = omega arith in sym P.all ∙ ap (all_to test) q
+all_below test n u f r ran yields k =
+    let all : 0 + n ≡ n = omega arith in
+    all_from_yields_List test u f r ran yields k ∙ and_more test 0 n ∙ ap (all_to test) all

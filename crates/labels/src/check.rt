@@ -41,12 +41,7 @@ pub fn is_label(s: &[u32], at: usize, used: u32) -> bool
 pub fn are_slots(s: &[u32], used: u32) -> bool
     ensures { result ≡ are_slots used s.now }
 {
-    for i in 0..s.len() / SLOT_WIDTH {
-        if !is_label(s, i * SLOT_WIDTH + SLOT_LABEL, used) {
-            return false;
-        }
-    }
-    true
+    (0..s.len() / SLOT_WIDTH).all(|i| is_label(s, i * SLOT_WIDTH + SLOT_LABEL, used))
 }
 
 // Are an entry's replaced mark and its label?
@@ -57,15 +52,9 @@ fn is_entry(s: &[u32], at: usize, used: u32) -> bool
     (s[at + ENTRY_REPLACED] <= 1) & is_label(s, at + ENTRY_LABEL, used)
 }
 
-// Are all of the memory? An entry has a mark to look at besides, so one function for slots and entries would take the
-// test of each: no plainer.
+// Are all of the memory?
 pub fn are_entries(s: &[u32], used: u32) -> bool
     ensures { result ≡ are_entries used s.now }
 {
-    for i in 0..s.len() / ENTRY_WIDTH {
-        if !is_entry(s, i * ENTRY_WIDTH, used) {
-            return false;
-        }
-    }
-    true
+    (0..s.len() / ENTRY_WIDTH).all(|i| is_entry(s, i * ENTRY_WIDTH, used))
 }

@@ -76,11 +76,9 @@ fn slot_one(stack: &mut [u32], path: u32, i: usize)
     ensures { stack.new ≡ slot_one path stack.old i }
 {
     let at = i * SLOT_WIDTH;
-    let label = read_label(stack, at + SLOT_LABEL);
-    if !is_length_of(path, label) {
-        return;
+    if is_length_of(path, read_label(stack, at + SLOT_LABEL)) {
+        put_small(stack, at, 1);
     }
-    put_small(stack, at, 1);
 }
 
 fn entry_one(memory: &mut [u32], path: u32, i: usize)
@@ -88,9 +86,7 @@ fn entry_one(memory: &mut [u32], path: u32, i: usize)
     ensures { memory.new ≡ entry_one path memory.old i }
 {
     let at = i * ENTRY_WIDTH;
-    let label = read_label(memory, at + ENTRY_LABEL);
-    if !is_length_of(path, label) {
-        return;
+    if is_length_of(path, read_label(memory, at + ENTRY_LABEL)) {
+        memory[at + ENTRY_REPLACED] = 1;
     }
-    memory[at + ENTRY_REPLACED] = 1;
 }

@@ -18,10 +18,8 @@ pub fn put_small(s: &mut [u32], at: usize, n: u32)
     ensures { s.new ≡ sets s.old at (small_word n) }
 {
     let x = U256 {
-        l3: 0,
-        l2: 0,
-        l1: 0,
-        l0: n as u64,
+        l0: u64::from(n),
+        ..U256::ZERO
     };
     put_numbers(s, at, x);
 }

@@ -51,7 +51,7 @@ fn copy_fits(numbers: &[u32]) -> bool
     requires { length numbers.now ≡ step_width }
     ensures { result ≡ copy_fits (get_or numbers.now step_op 0) (word_at numbers.now step_second) }
 {
-    if numbers[STEP_OP] != CALLDATACOPY as u32 {
+    if numbers[STEP_OP] != u32::from(CALLDATACOPY) {
         return true;
     }
     below_number(from_numbers(numbers, STEP_SECOND), 0x1_0000_0000)
