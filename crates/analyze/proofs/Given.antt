@@ -30,10 +30,6 @@ pub uint_name : (n : ℕ) → 8 ≤ n → n ≤ 256 → n % 8 ≡ 0 → is_name 
 unfolding code_of good_width
 uint_name n l u e = code_is_name (uint n) (bits_good n l u e)
 
-pub int_name : (n : ℕ) → 8 ≤ n → n ≤ 256 → n % 8 ≡ 0 → is_name (code.int + n) ≡ true
-unfolding code_of good_width
-int_name n l u e = code_is_name (int n) (bits_good n l u e)
-
 pub bytes_name : (n : ℕ) → 1 ≤ n → n ≤ 32 → is_name (code.fixed_bytes + n) ≡ true
 unfolding code_of good_width
 bytes_name n l u = code_is_name (fixed_bytes n) (λ i. le-leb 1 n l i && le-leb n 32 u i)
@@ -68,9 +64,10 @@ mask_name m = go (and_mask_to_type m) (mask_cases m)
         inr (ap is_name e ∙ uint_name (8 * n) (omega arith) (omega arith) (omega arith))
     go name (inr (inr (inr (n, l, u, e)))) = inr (ap is_name e ∙ bytes_name n l u)
 
--- SIGNEXTEND's
+-- an int of one byte more than n, as SIGNEXTEND gives
 pub extended_name : (n : ℕ) → n < word_bytes → is_name (code.int + (n + 1) * 8) ≡ true
-extended_name n h = int_name ((n + 1) * 8) (omega arith) (omega arith) (omega arith)
+unfolding code_of good_width
+extended_name n h = code_is_name (int ((n + 1) * 8)) (bits_good ((n + 1) * 8) (omega arith) (omega arith) (omega arith))
 
 -- a guarded SHR's
 pub width_name_lem : (w : ℕ) → NoneOrName (width_name w)

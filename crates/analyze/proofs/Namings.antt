@@ -29,7 +29,7 @@ use Rattle.analyze.specs.Name.{call, mstore8, width_name, name_if, shr, signed_f
 use Rattle.analyze.specs.Name.{and, eq_masked, eq_both, eq, zero_tested, is_zero, sign_extend, byte, mload}
 use Rattle.analyze.specs.Ready.{LabelReaches, ChoiceReaches, StepReaches}
 use Rattle.analyze.proofs.Reach.{step_choice}
-use Rattle.analyze.proofs.Given.{NoneOrName, uint_name, int_name, bytes_name, bool_name, address_name, mask_name}
+use Rattle.analyze.proofs.Given.{NoneOrName, uint_name, bytes_name, bool_name, address_name, mask_name}
 use Rattle.analyze.proofs.Given.{extended_name, width_name_lem}
 use Rattle.analyze.proofs.Proper.{Proper, cond_has, cond_given, arg_has, proper_none, proper_stack, proper_mark}
 use Rattle.analyze.proofs.Proper.{proper_name, proper_mark_name, unless_none}
@@ -71,8 +71,7 @@ module _ (u : ℕ) (Fits Slot : Type 0) (pick : ℕ) where
   proper_signed_first : (k : Option Choice) → ChoiceReaches u k → P (signed_first k)
   proper_signed_first None K = proper_none
   proper_signed_first (Some k) K =
-      proper_mark_name k.val (code.int + 256) by_sdiv_or_smod K.0 (omega arith) (omega arith)
-      (int_name 256 (omega arith) (omega arith) refl)
+      proper_mark_name k.val (code.int + 256) by_sdiv_or_smod K.0 (omega arith) (omega arith) (extended_name 31 (omega arith))
 
   proper_zero_tested : (bytes : List ℕ) (pc : ℕ) (l : Label) → LabelReaches u l → Slot → P (zero_tested bytes pc l)
   proper_zero_tested bytes pc Unlabelled L slot = proper_none

@@ -42,11 +42,8 @@ pub fn and_stack(first: Operation, second: Operation, stack: OnStack) -> Plan
     ensures { result ≡ with_stack (two_operations first second) stack }
 {
     Plan {
-        first,
-        second,
-        third: Operation::Nothing,
         stack,
-        memory: InMemory::Keep,
+        ..two_operations(first, second)
     }
 }
 
@@ -55,11 +52,8 @@ pub fn and_memory(first: Operation, second: Operation, memory: InMemory) -> Plan
     ensures { result ≡ with_memory (two_operations first second) memory }
 {
     Plan {
-        first,
-        second,
-        third: Operation::Nothing,
-        stack: OnStack::Keep,
         memory,
+        ..two_operations(first, second)
     }
 }
 

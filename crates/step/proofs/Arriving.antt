@@ -28,11 +28,3 @@ module _ (l : Lent) (bytes x : List ℕ) where
   pub refused_by : (N k : ℕ) → Admits l.held N → eqb k taken ≡ false → first_no (tests_of l bytes x) ≡ k
       → Outcome l bytes x k l
   refused_by N k A z e = refused k z (sound_asked l.held (tests_of l bytes x) N k A (sym e))
-
--- what was decided
-module _ (N : ℕ) (l : Lent) (bytes x : List ℕ) (d : Result Planned Refusal) (D : Decides N l bytes x d) where
-  pub accepts_so : (p : Planned) → d ≡ Ok p → Accepts N l bytes x p
-  accepts_so p e = subst (Decides N l bytes x) e D
-
-  pub refuses_so : (r : Refusal) → d ≡ Err r → Outcome l bytes x (number_of r) l
-  refuses_so r e = subst (Decides N l bytes x) e D
