@@ -52,7 +52,8 @@ pub fn put_pick_one(memory: &mut [u32], pick: u32)
     memory[at + ENTRY_REPLACED] = 1;
 }
 
-// "its bytes became the 32-byte word 1": each slot that holds the length at that path becomes 1.
+// "its bytes became the 32-byte word 1": each slot that holds the length at that path becomes 1. What is promised speaks
+// of places in the whole stack, and with `chunks_exact_mut` would have to be put together of the slots: no plainer.
 pub fn stack_ones(stack: &mut [u32], path: u32)
     ensures { stack.new ≡ stack_ones path stack.old }
 {

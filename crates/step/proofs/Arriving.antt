@@ -1,6 +1,6 @@
 -- A step that is refused leaves everything, and one that question 1 or 2 refuses is so whatever else it is handed.
 use Prim.Native.Nat.{ℕ}
-use mathlib.Core.Path.{◌≡◌, sym, ap, subst}
+use mathlib.Core.Path.{◌≡◌, sym, ap}
 use mathlib.Core.Bool.{Bool, false, cond}
 use mathlib.Core.List.{List}
 use lib.Dec.{eqb}
@@ -10,10 +10,8 @@ use Rattle.limits.proofs.Refusals.{not_taken}
 use Rattle.head.specs.Asked.{first_no, FirstNo}
 use Rattle.head.specs.Admitting.{Admits, AdmittedBy}
 use Rattle.head.proofs.Asking.{sound_asked, refused_so}
-use Rattle.std.specs.Prelude.{Ok, Err}
+use Rattle.std.specs.Prelude.{Err}
 use Rattle.std.specs.declared.result.Result.{Result}
-use Rattle.step.specs.declared.Planned.{Planned}
-use Rattle.step.specs.Decide.{Accepts, Decides}
 use Rattle.step.specs.Call.{Lent, effect, questions, tests_of, Outcome}
 
 module _ (l : Lent) (bytes x : List ℕ) where
