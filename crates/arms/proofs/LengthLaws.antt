@@ -1,9 +1,9 @@
--- A name for a path, and how much a multiplier and a shift say.
+-- How much a multiplier and a shift say.
 use Rattle.std.proofs.Common.{Option, subst}
 use Rattle.std.specs.Option.{ForSome}
 use Rattle.analyze.proofs.Given.{BytesFit, shift_most}
 use Prim.Native.Nat.{ℕ, ◌≤◌}
-use mathlib.Core.Path.{◌≡◌, sym, ap, ◌∙◌}
+use mathlib.Core.Path.{◌≡◌, sym, ◌∙◌}
 use mathlib.Core.List.{List}
 use native.Mathlib.Omega.{arith}
 use Rattle.limits.specs.Limits.{array_count_max}
@@ -11,20 +11,7 @@ use Rattle.word.specs.Multiplier.{multiplier_of}
 use Rattle.word.specs.declared.Multiplier.{Multiplier}
 use Rattle.word.specs.declared.Multiplier.TheVariants.{Array}
 use Rattle.word.proofs.Multipliers.{array_is}
-use Rattle.facts.specs.Table.{key_of, parent_of}
-use Rattle.facts.specs.State.{Node, nodes}
-use Rattle.facts.proofs.Encode.{nodes_get}
-use Rattle.operations.specs.declared.Operation.TheVariants.{SetTname}
-use Rattle.operations.specs.Asks.{IsUsed}
-use Rattle.analyze.specs.Length.{name_path}
 use Rattle.analyze.specs.Length.{bytes_shift}
-
--- a name for a path that is there
-pub path_named : (t : List ℕ) (u path name confidence p k : ℕ) → IsUsed u path → p ≡ parent_of t path → k ≡ key_of t path
-    → SetTname p k name confidence ≡ name_path (nodes t u) path name confidence
-path_named t u path name confidence p k U ep ek =
-    let e = nodes_get t u path U.from U.to in
-    λ i. SetTname ((ep ∙ sym (ap (λ (n : Node). n.parent) e)) i) ((ek ∙ sym (ap (λ (n : Node). n.key) e)) i) name confidence
 
 -- an array mark counts no more words than the largest
 pub count_most : (m : ℕ) (said : Multiplier) → said ≡ multiplier_of m → (count : ℕ) → said ≡ Array count → count ≤ array_count_max
