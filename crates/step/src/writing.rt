@@ -17,13 +17,10 @@ fn put_loaded(stack: &mut [u32], offset: u32, ran: Ran)
     requires { StackFits (OnStack.Loaded offset) stack.old }
     ensures { stack.new ≡ write_stack (OnStack.Loaded offset) ran.path ran.array stack.old }
 {
-    let label = loaded_arg(offset, ran.path);
     if (offset == 0) & ran.array {
         put_top_word(stack, 1);
-        put_top_label(stack, label);
-        return;
     }
-    put_top_label(stack, label);
+    put_top_label(stack, loaded_arg(offset, ran.path));
 }
 
 fn put_top(stack: &mut [u32], word: u32, label: Label)
@@ -65,13 +62,10 @@ fn put_picked(memory: &mut [u32], pick: u32, offset: u32, ran: Ran)
     requires { MemoryFits (InMemory.Loaded pick offset) memory.old }
     ensures { memory.new ≡ write_memory (InMemory.Loaded pick offset) ran.path ran.array memory.old }
 {
-    let label = loaded_arg(offset, ran.path);
     if (offset == 0) & ran.array {
         put_pick_one(memory, pick);
-        put_pick_label(memory, pick, label);
-        return;
     }
-    put_pick_label(memory, pick, label);
+    put_pick_label(memory, pick, loaded_arg(offset, ran.path));
 }
 
 #[tactic(auto, unfolding(analyze::specs::Plan::write_memory))]
