@@ -1,12 +1,13 @@
--- The facts after a whole step: formed if they were, and as many as the plan on the facts before the step
+-- The facts after a whole step: formed if they were, none lost, and as many as the plan on the facts before the step
 -- comes to, so that question 8 can be asked of these.
-use Prim.Native.Nat.{ℕ, ◌+◌}
+use Prim.Native.Nat.{ℕ, ◌+◌, ◌≤◌}
 use mathlib.Core.Path.{◌≡◌, sym, ap, subst, ◌∙◌}
 use mathlib.Core.Bool.{Bool, cond, ◌||◌}
 use mathlib.Core.List.{List}
+use native.Mathlib.Omega.{arith}
 use lib.Dec.{eqb}
 use lib.ListN.{length}
-use Rattle.facts.specs.State.{Node}
+use Rattle.facts.specs.State.{Node, node_of}
 use Rattle.facts.specs.Formed.{Formed}
 use Rattle.paths.specs.Order.{Ordered}
 use Rattle.paths.proofs.Adds.{same_missing}
@@ -17,9 +18,9 @@ use Rattle.operations.specs.declared.Operation.{Operation}
 use Rattle.operations.specs.Run.{run, run_all}
 use Rattle.operations.specs.Asks.{Reaches, makes, same, lacks}
 use Rattle.operations.proofs.Sizes.{added_by, three_size}
-use Rattle.operations.proofs.Lists.{Each}
+use Rattle.operations.proofs.Lists.{Each, run_all_grows}
 use Rattle.operations.proofs.Keeping.{run_all_formed}
-use Rattle.operations.proofs.Clears.{Clears, clear_same, clear_size}
+use Rattle.operations.proofs.Clears.{Clears, clear_same, clear_size, clear_parent}
 use Rattle.analyze.specs.declared.Plan.{Plan}
 use Rattle.analyze.specs.declared.Hints.{Hints}
 use Rattle.analyze.specs.Plan.{hint_operations, operations}
@@ -53,6 +54,12 @@ module _ (s : List Node) (active : Bool) (x : Step) where
   hinted_lacks f =
       let C = hints_clear active x in
       clear_lacks (run s h.first) h.second C.second f ∙ clear_lacks s h.first C.first f
+
+  pub hinted_parent : (r : ℕ) → (node_of (hinted s active x) r).parent ≡ (node_of s r).parent
+  unfolding run_all
+  hinted_parent r =
+      let C = hints_clear active x in
+      clear_parent (run s h.first) h.second C.second r ∙ clear_parent s h.first C.first r
 
   pub hinted_formed : Formed s → StepReaches (length s) x → Formed (hinted s active x)
   hinted_formed F R =
@@ -101,6 +108,13 @@ module _ (m : Machine) (active : Bool) (bytes : List ℕ) (x : Step) where
         let added : added_by cleared f g k ≡ added_by before f g k =
         λ i. lack f i + cond (same f g) 0 (lack g i) + cond (same f k || same g k) 0 (lack k i) in
         ap length analyze_facts ∙ size cleared ∙ (λ i. hinted_size before active x i + added i) ∙ sym (size before)
+
+    -- no record is lost
+    pub analyze_grows : length before ≤ length (analyze m active bytes x).state
+    analyze_grows =
+        let e = analyze_room in
+        let g = run_all_grows (length before) before (operations plan) (plan_each (length before) plan reaches) in
+        omega arith
 
   -- question 2, said of nodes, holds of what a step leaves
   pub analyze_formed : Formed before → StepReaches (length before) x → StepFits x
