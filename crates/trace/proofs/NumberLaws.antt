@@ -4,15 +4,9 @@ use mathlib.Core.List.{List, [], ◌∷◌, ◌++◌}
 use Prim.Native.Nat.{ℕ, ◌+◌, ◌*◌, ◌≤◌, ◌<◌}
 use native.Mathlib.Numerals.{add-one}
 use native.Mathlib.Omega.{arith}
-use lib.ListN.{length, get_or, take, set}
+use lib.ListN.{length, take, set}
 use lib.Seq.{take-suc-set, take_all}
 use Rattle.trace.specs.Numbers.{number_at, numbers_of}
-
--- four bytes are their number
-pub number_is : (bs : List ℕ) (at a b c d : ℕ) → a ≡ get_or bs at 0 → b ≡ get_or bs (at + 1) 0 → c ≡ get_or bs (at + 2) 0
-    → d ≡ get_or bs (at + 3) 0 → a + b * 256 + c * 65536 + d * 16777216 ≡ number_at bs at
-unfolding number_at
-number_is bs at a b c d ea eb ec ed = omega arith
 
 module _ (bs out : List ℕ) where
   pub numbers_none : take 0 out ≡ numbers_of 0 bs
