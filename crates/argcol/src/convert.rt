@@ -1,14 +1,12 @@
 // Answers as numbers, and the packed word from numbers.
 ghost use Rattle.std.specs.Prelude.{◌≡◌, Ok};
 ghost use Rattle.closing.specs.Answer.{verdict_of};
-ghost use Rattle.head.specs.Held.{held};
-ghost use Rattle.argcol.specs.Numbers.{values_after, packed_of, hand_numbers, ClosingOutcome};
+ghost use Rattle.argcol.specs.Numbers.{values_after, packed_of};
 ghost use Rattle.argcol.specs.Lengths.{length_after};
 
-use crate::{Ended, Values};
+use crate::Values;
 use closing::Closing;
-use head::Head;
-use limits::{Refusal, answer_number};
+use limits::Refusal;
 use word::U256;
 use word::numbers::from_numbers;
 
@@ -53,7 +51,7 @@ fn values_of(said: Closing) -> Values
 }
 
 // A closing's answer in numbers, or what a host has lent for them where the call is refused.
-fn values_after(answer: Result<Closing, Refusal>, lent: Values) -> Values
+pub fn values_after(answer: Result<Closing, Refusal>, lent: Values) -> Values
     ensures { result ≡ values_after (verdict_of answer) lent }
 {
     match answer {
@@ -64,35 +62,11 @@ fn values_after(answer: Result<Closing, Refusal>, lent: Values) -> Values
 
 // The packed word: at flag 0 there is none.
 #[tactic(auto, unfolding(crate::specs::Numbers::packed_of))]
-fn read_packed(flag: u32, word: &[u32; 8]) -> Option<U256>
+pub fn read_packed(flag: u32, word: &[u32; 8]) -> Option<U256>
     ensures { result ≡ packed_of flag word.now }
 {
     if flag == 0 {
         return None;
     }
     Some(from_numbers(word, 0))
-}
-
-// Closes.
-pub fn close(
-    head: Head,
-    table: &mut [u32],
-    code: &[u8],
-    start: u32,
-    flag: u32,
-    word: &[u32; 8],
-    types: &mut [u16],
-    lent: Values,
-) -> Ended
-    ensures { ClosingOutcome (held head table.old) types.old
-        (hand_numbers code.now start flag word.now) lent result.number
-        (held result.head table.new) types.new result.values }
-{
-    let packed = read_packed(flag, word);
-    let closed = closing::close(head, table, code, start, packed, types);
-    Ended {
-        head: closed.head,
-        number: answer_number(&closed.answer),
-        values: values_after(closed.answer, lent),
-    }
 }

@@ -11,7 +11,8 @@ ghost use Rattle.step.specs.Call.{Outcome as StepOutcome, lend};
 ghost use Rattle.argcol.specs.Numbers.{gather, hand_numbers, values, FreshOutcome, ClosingOutcome, TextOutcome};
 ghost use Rattle.argcol.specs.Version.{version};
 
-use convert::{close, text_length};
+use closing::close;
+use convert::{read_packed, text_length, values_after};
 use head::{Head, fresh};
 use limits::answer_number;
 use step::step;
@@ -28,14 +29,6 @@ pub struct Values {
     pub entries: u32,
     pub left: u32,
     pub length: u32,
-}
-
-// What a closing leaves beside the lent slices.
-#[derive(Clone, Copy)]
-pub struct Ended {
-    pub head: Head,
-    pub number: u32,
-    pub values: Values,
 }
 
 // The version, which a host compares with that of its header before any other call.
@@ -119,14 +112,15 @@ pub fn argcol_closing(
         left: *left,
         length: *length,
     };
-    let ended = close(head, table, code, start, flag, word, types, lent);
-    *used = ended.head.used;
-    *active = ended.head.active;
-    *kind = ended.values.kind;
-    *entries = ended.values.entries;
-    *left = ended.values.left;
-    *length = ended.values.length;
-    ended.number
+    let closed = close(head, table, code, start, read_packed(flag, word), types);
+    let values = values_after(closed.answer, lent);
+    *used = closed.head.used;
+    *active = closed.head.active;
+    *kind = values.kind;
+    *entries = values.entries;
+    *left = values.left;
+    *length = values.length;
+    answer_number(&closed.answer)
 }
 
 // The text call. The length is lent for the answer's value; only a call that is taken writes it.

@@ -1,5 +1,6 @@
 // The exports of the archive `libargcol.a`: each calls the function of `argcol` that has its name, and says what it says.
-// `argcol.h` in crates/argcol declares them for C.
+// `argcol.h` in crates/argcol declares them for C. C's interface needs each as a function of its own, so that each says
+// its contract again.
 #![tactic(auto)]
 
 ghost use Rattle.std.specs.Prelude.{◌≡◌};
