@@ -1,6 +1,7 @@
 // The head lent by `&mut`: "the head (records used, decoder active) goes along with every call". Each thin function
-// takes the struct apart, calls the by-value core, and stores the fields of the core's head. Above the step and the
-// closing stands one function with plain parameters (`by_value.rt`), by which programs go through them.
+// calls the by-value core, and stores the core's head. Above the step and the closing stands one function with plain
+// parameters (`by_value.rt`), by which programs go through them. A contract here is its core's, `Outcome` of the names
+// in this place: a definition for its arguments would be one more to believe, and no plainer.
 #![tactic(auto)]
 
 mod by_value;
@@ -25,10 +26,8 @@ pub fn fresh(head: &mut Head, table: &mut [u32]) -> Result<u32, Refusal>
     ensures { FreshOutcome (held head.old table.old) (answer_number result) (count_of result)
         (held head.new table.new) }
 {
-    let Head { used, active } = *head;
-    let opened = head::fresh(Head { used, active }, table);
-    head.used = opened.head.used;
-    head.active = opened.head.active;
+    let opened = head::fresh(*head, table);
+    *head = opened.head;
     opened.answer
 }
 
@@ -46,11 +45,8 @@ pub fn step(
         code.now numbers.now (answer_number result)
         (lend (held head.new table.new) stack.new memory.new) }
 {
-    let Head { used, active } = *head;
-    let before = Head { used, active };
-    let stepped = step::step(before, table, code, stack, memory, numbers);
-    head.used = stepped.head.used;
-    head.active = stepped.head.active;
+    let stepped = step::step(*head, table, code, stack, memory, numbers);
+    *head = stepped.head;
     stepped.answer
 }
 
@@ -67,10 +63,7 @@ pub fn close(
         (hand code.now start packed) (verdict_of result)
         (held head.new table.new) types.new }
 {
-    let Head { used, active } = *head;
-    let before = Head { used, active };
-    let closed = closing::close(before, table, code, start, packed, types);
-    head.used = closed.head.used;
-    head.active = closed.head.active;
+    let closed = closing::close(*head, table, code, start, packed, types);
+    *head = closed.head;
     closed.answer
 }

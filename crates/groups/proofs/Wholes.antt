@@ -1,5 +1,5 @@
 -- What `is_group` tells, and that what is read by a front's counts is a whole group.
-use Prim.Native.Nat.{ℕ, ◌+◌, ◌≤◌, ◌<◌}
+use Prim.Native.Nat.{ℕ, ◌+◌, ◌≤◌}
 use mathlib.Core.Path.{◌≡◌, refl, sym, ap, ◌∙◌}
 use mathlib.Core.Bool.{Bool, true, false}
 use mathlib.Core.List.{List, ◌++◌}
@@ -18,31 +18,27 @@ use Rattle.groups.specs.Group.{IsGroup}
 differ : (b : Bool) → b ≡ true → b ≡ false → ⊥
 differ b t f = let z : ◌≡◌ {A = ℕ} 0 1 = cc in omega arith
 
-module _ (bs : List ℕ) where
-  pub short_front : length bs < front_bytes → IsGroup bs → ⊥
-  short_front h g = let front = g.front in omega arith
+module _ (bs : List ℕ) (front : front_bytes ≤ length bs) (r : Option ℕ) (is : r ≡ group_rest bs) where
+  pub counts_over : r ≡ None → IsGroup bs → ⊥
+  counts_over e g =
+      differ (group_fits (slot_count bs) (entry_count bs)) (simp (le-leb _ _ g.slots, le-leb _ _ g.entries)) (over_unfit bs (sym is ∙ e))
 
-  module _ (front : front_bytes ≤ length bs) (r : Option ℕ) (is : r ≡ group_rest bs) where
-    pub counts_over : r ≡ None → IsGroup bs → ⊥
-    counts_over e g =
-        differ (group_fits (slot_count bs) (entry_count bs)) (simp (le-leb _ _ g.slots, le-leb _ _ g.entries)) (over_unfit bs (sym is ∙ e))
+  -- as many bytes as the counts ask for
+  pub as_many : (n : ℕ) → r ≡ Some n → Tells (eqb (length bs) (front_bytes + n)) (IsGroup bs)
+  as_many n e = go (eqb (length bs) (front_bytes + n)) refl
+    where
+      fit : (group_fits (slot_count bs) (entry_count bs) ≡ true) × (rest_bytes bs ≡ n)
+      fit = bytes_fit bs n (sym is ∙ e)
 
-    -- as many bytes as the counts ask for
-    pub as_many : (n : ℕ) → r ≡ Some n → Tells (eqb (length bs) (front_bytes + n)) (IsGroup bs)
-    as_many n e = go (eqb (length bs) (front_bytes + n)) refl
-      where
-        fit : (group_fits (slot_count bs) (entry_count bs) ≡ true) × (rest_bytes bs ≡ n)
-        fit = bytes_fit bs n (sym is ∙ e)
-
-        go : (b : Bool) → eqb (length bs) (front_bytes + n) ≡ b → Tells b (IsGroup bs)
-        go true t =
-            record {
-              front = front;
-              slots = slots_fit (slot_count bs) (entry_count bs) true (sym fit.0) refl;
-              entries = entries_fit (slot_count bs) (entry_count bs) true (sym fit.0) refl;
-              whole = eqb-true (length bs) (front_bytes + n) t ∙ ap (λ (k : ℕ). front_bytes + k) (sym fit.1);
-            }
-        go false t = λ g. eqb-false (length bs) (front_bytes + n) t (g.whole ∙ ap (λ (k : ℕ). front_bytes + k) fit.1)
+      go : (b : Bool) → eqb (length bs) (front_bytes + n) ≡ b → Tells b (IsGroup bs)
+      go true t =
+          record {
+            front = front;
+            slots = slots_fit (slot_count bs) (entry_count bs) true (sym fit.0) refl;
+            entries = entries_fit (slot_count bs) (entry_count bs) true (sym fit.0) refl;
+            whole = eqb-true (length bs) (front_bytes + n) t ∙ ap (λ (k : ℕ). front_bytes + k) (sym fit.1);
+          }
+      go false t = λ g. eqb-false (length bs) (front_bytes + n) t (g.whole ∙ ap (λ (k : ℕ). front_bytes + k) fit.1)
 
 -- what is read behind a front by its counts makes a whole group of it
 pub read_whole : (front rest : List ℕ) (n : ℕ) → length front ≡ front_bytes → group_rest front ≡ Some n → length rest ≡ n → IsGroup (front ++ rest)

@@ -1,8 +1,6 @@
 // The step of a group: its numbers are read straight from the bytes, the slots and entries to room of its own, and the
 // step call is made.
-ghost use Rattle.std.specs.Prelude.{◌≡◌, ◌*◌, length};
-ghost use Rattle.limits.specs.Input.{trace_slots_max, trace_entries_max};
-ghost use Rattle.limits.specs.Layout.{slot_width, entry_width};
+ghost use Rattle.std.specs.Prelude.{◌≡◌, length};
 ghost use Rattle.limits.specs.Refusal.{answer_number};
 ghost use Rattle.trace.specs.Group.{slot_numbers, entry_numbers};
 ghost use Rattle.groups.specs.Group.{IsGroup};
@@ -43,33 +41,6 @@ fn put_step(
     by_reference::run_step(head, table, code, stack, memory, &numbers)
 }
 
-// The same, with room for the longest stack and memory.
-fn put_sized(
-    head: Head,
-    table: &mut [u32],
-    code: &[u8],
-    bytes: &[u8],
-    stack: &mut [u32],
-    memory: &mut [u32],
-) -> Stepped
-    requires group { IsGroup bytes.now }
-    requires stack_len { (length stack.old ≡ trace_slots_max * slot_width)
-        × (length memory.old ≡ trace_entries_max * entry_width) }
-    ensures { Put (held head table.old) code.now bytes.now
-        (answer_number result.answer) (held result.head table.new) }
-{
-    let s = slot_count(bytes) as usize * SLOT_WIDTH;
-    let m = entry_count(bytes) as usize * ENTRY_WIDTH;
-    put_step(
-        head,
-        table,
-        code,
-        bytes,
-        &mut stack[0..s],
-        &mut memory[0..m],
-    )
-}
-
 // What the step call answers to a group; nothing, with nothing changed, if the bytes are no whole one within the sizes.
 pub fn take_group(head: Head, table: &mut [u32], code: &[u8], bytes: &[u8]) -> Option<Stepped>
     ensures { Outcome (held head table.old) code.now bytes.now (verdict_of result)
@@ -80,5 +51,8 @@ pub fn take_group(head: Head, table: &mut [u32], code: &[u8], bytes: &[u8]) -> O
     }
     let mut stack = [0u32; STACK_ROOM];
     let mut memory = [0u32; MEMORY_ROOM];
-    Some(put_sized(head, table, code, bytes, &mut stack, &mut memory))
+    let s = slot_count(bytes) as usize * SLOT_WIDTH;
+    let m = entry_count(bytes) as usize * ENTRY_WIDTH;
+    let (stack, memory) = (&mut stack[..s], &mut memory[..m]);
+    Some(put_step(head, table, code, bytes, stack, memory))
 }

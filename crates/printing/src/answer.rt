@@ -1,8 +1,4 @@
 // What is written.
-ghost use Rattle.std.specs.Prelude.{◌≤◌, length};
-ghost use Rattle.limits.specs.Limits.{codes_max};
-ghost use Rattle.trace.specs.Lines.{list_room};
-
 use crate::Stop;
 use head::Head;
 use limits::TYPES_ROOM;
@@ -29,24 +25,7 @@ pub fn put_stop(rt: &impl Print, stop: Stop) -> io::Result<()> {
     }
 }
 
-// Lends room, and writes what is stored there.
-fn put_closing(
-    rt: &impl Print,
-    head: Head,
-    table: &mut [u32],
-    code: &[u8],
-    start: u32,
-    packed: Option<U256>,
-    types: &mut [u16],
-    out: &mut [u8],
-) -> io::Result<()>
-    requires { (length types.old ≤ codes_max) × (list_room ≤ length out.old) }
-{
-    let stored = close_into(head, table, code, start, packed, types, out);
-    rt.write_all(&out[..stored.length])
-}
-
-// The closing, and what it answers.
+// The closing, and what it answers, on room of its own.
 pub fn close_trace(
     rt: &impl Print,
     head: Head,
@@ -57,5 +36,6 @@ pub fn close_trace(
 ) -> io::Result<()> {
     let mut types = [0u16; TYPES_ROOM];
     let mut lines = [0u8; LIST_ROOM];
-    put_closing(rt, head, table, code, start, packed, &mut types, &mut lines)
+    let stored = close_into(head, table, code, start, packed, &mut types, &mut lines);
+    rt.write_all(&lines[..stored.length])
 }
