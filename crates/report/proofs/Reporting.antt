@@ -61,16 +61,12 @@ module _ (said : Closing) (cs out : List ℕ) (from r : ℕ) (out' : List ℕ) w
       by (granted g.entries g.left g.length) (said_so (GrantedAnswer g) e)
       (λ ts rest h c n. f ts rest record { formed = h; number = n; spelt = c })
 
--- answered, or refused
-module _ (answer : Result Closing Refusal) (cs out : List ℕ) (from r : ℕ) (out' : List ℕ) where
-  pub report_said : (said : Closing) → answer ≡ Ok said → Reported (verdict_of (Ok said)) cs out from r out'
-      → Reported (verdict_of answer) cs out from r out'
-  report_said said e f = rw e f
-
-  pub report_refused : (q : Refusal) (number : ℕ) → answer ≡ Err q → number ≡ refusal_number q
-      → StoredAt (refused_line number 0) out from r out' → Reported (verdict_of answer) cs out from r out'
-  unfolding answer_text
-  report_refused q number e n line = rw (e, ← n) (λ ts rest h c m. line)
+-- refused
+pub report_refused : (answer : Result Closing Refusal) (cs out : List ℕ) (from r : ℕ) (out' : List ℕ) (q : Refusal) (number : ℕ)
+    → answer ≡ Err q → number ≡ refusal_number q → StoredAt (refused_line number 0) out from r out'
+    → Reported (verdict_of answer) cs out from r out'
+unfolding answer_text
+report_refused answer cs out from r out' q number e n line = rw (e, ← n) (λ ts rest h c m. line)
 
 -- the outcome's text
 module _ (out : List ℕ) (from r : ℕ) (out' : List ℕ) where

@@ -1,11 +1,10 @@
 -- The loop of `read_numbers`: the first i numbers are read.
-use mathlib.Core.Path.{◌≡◌, refl, sym, ap, ◌∙◌}
+use mathlib.Core.Path.{◌≡◌, refl, ◌∙◌}
 use mathlib.Core.List.{List, [], ◌∷◌, ◌++◌}
-use Prim.Native.Nat.{ℕ, ◌+◌, ◌*◌, ◌≤◌, ◌<◌}
+use Prim.Native.Nat.{ℕ, ◌+◌, ◌*◌, ◌<◌}
 use native.Mathlib.Numerals.{add-one}
-use native.Mathlib.Omega.{arith}
 use lib.ListN.{length, take, set}
-use lib.Seq.{take-suc-set, take_all}
+use lib.Seq.{take-suc-set}
 use Rattle.trace.specs.Numbers.{number_at, numbers_of}
 
 module _ (bs out : List ℕ) where
@@ -17,9 +16,3 @@ module _ (bs out : List ℕ) where
       → take (i + 1) (set out i v) ≡ numbers_of (i + 1) bs
   unfolding numbers_of
   numbers_more i v h e ev = rw add-one (take-suc-set out i v h ∙ (λ j. e j ++ (ev j ∷ [])))
-
-  pub numbers_end : (i n : ℕ) → length out ≤ i → i ≤ n → length out ≡ n → take i out ≡ numbers_of i bs
-      → out ≡ numbers_of n bs
-  numbers_end i n h l en e =
-      let i-is : i ≡ n = omega arith in
-      sym (take_all i out h) ∙ e ∙ ap (λ (k : ℕ). numbers_of k bs) i-is

@@ -1,9 +1,6 @@
--- Answered, or refused.
-use Rattle.report.proofs.Reporting.{report_said, report_refused}
+-- Refused.
+use Rattle.report.proofs.Reporting.{report_refused}
 use Rattle.report.proofs.put_answer.Goals as goal
-
-pub returns-in-Ok-clause-reported : goal.returns-in-Ok-clause-reported
-returns-in-Ok-clause-reported c = report_said _ _ _ _ _ _ _ c.in-Ok.is c.put_said.ensures.reported
 
 pub returns-in-Err-clause-reported : goal.returns-in-Err-clause-reported
 returns-in-Err-clause-reported c =

@@ -3,9 +3,6 @@ use Rattle.std.proofs.Common.{rules}
 use Rattle.text.proofs.Stacks.{end_stored, end_left, stop_stored, stop_left, turn_room, turn_again}
 use Rattle.text.proofs.write.close.Goals as goal
 
-pub push-requires : goal.push-requires
-push-requires c = let p = c.in-Some.ensures in search rules
-
 pub returns-then-left-gt1-clause-stored : goal.returns-then-left-gt1-clause-stored
 returns-then-left-gt1-clause-stored c = let p = c.in-Some.ensures.items in search (stop_stored, rules)
 
