@@ -1,6 +1,7 @@
 // What each leaf is called with, and how its answer is written.
 use crate::leaf::Leaf;
 use crate::vector::{code, first_word, flag, leaf, number, second_word};
+use std::fmt::Display;
 use std::io;
 use word::{Multiplier, U256};
 
@@ -22,10 +23,15 @@ fn put_word(rt: &impl Print, x: U256) -> io::Result<()> {
     Ok(())
 }
 
-fn put_kept(rt: &impl Print, k: Option<u32>) -> io::Result<()> {
-    match k {
-        Some(n) => print!(rt; " {n}"),
-        None => print!(rt; " not kept"),
+// What may not be there.
+fn put_option<T: Display + Drop>(
+    rt: &impl Print,
+    value: Option<T>,
+    none: &'static str,
+) -> io::Result<()> {
+    match value {
+        Some(x) => print!(rt; " {x}"),
+        None => print!(rt; " {none}"),
     }
 }
 
@@ -35,20 +41,6 @@ fn put_multiplier(rt: &impl Print, m: Multiplier) -> io::Result<()> {
         Multiplier::Two => print!(rt; " two"),
         Multiplier::Array(n) => print!(rt; " {n}"),
         Multiplier::Other => print!(rt; " other"),
-    }
-}
-
-fn put_place(rt: &impl Print, p: Option<usize>) -> io::Result<()> {
-    match p {
-        Some(at) => print!(rt; " {at}"),
-        None => print!(rt; " none"),
-    }
-}
-
-fn put_words(rt: &impl Print, w: Option<u32>) -> io::Result<()> {
-    match w {
-        Some(n) => print!(rt; " {n}"),
-        None => print!(rt; " none"),
     }
 }
 
@@ -67,8 +59,8 @@ pub fn answer(rt: &impl Print, v: &[u8; 192]) -> io::Result<()> {
     let x = first_word(v);
     match leaf {
         Leaf::AndMaskToType => put_number(rt, mask::and_mask_to_type(x)),
-        Leaf::Keep => put_kept(rt, word::sum::keep(x)),
-        Leaf::AddKept => put_kept(rt, word::sum::add_kept(x, n)),
+        Leaf::Keep => put_option(rt, word::sum::keep(x), "not kept"),
+        Leaf::AddKept => put_option(rt, word::sum::add_kept(x, n), "not kept"),
         Leaf::Add => put_word(rt, word::sum::add(x, second_word(v))),
         Leaf::PowerOfTwo => put_word(rt, word::power::power_of_two(x)),
         Leaf::ReadMultiplier => put_multiplier(rt, word::multiply::read_multiplier(x)),
@@ -78,11 +70,11 @@ pub fn answer(rt: &impl Print, v: &[u8; 192]) -> io::Result<()> {
         Leaf::IsMax => put_bool(rt, word::compare::is_max(x)),
         Leaf::EqualsNumber => put_bool(rt, word::compare::equals_number(x, u64::from(n))),
         Leaf::BelowNumber => put_bool(rt, word::compare::below_number(x, u64::from(n))),
-        Leaf::Opcode => put_opcode(rt, (n % 256) as u8),
-        Leaf::GuardFailurePc => put_place(rt, code::guard_failure_pc(code(v), n, flag(v))),
+        Leaf::Opcode => put_opcode(rt, n.to_le_bytes()[0]),
+        Leaf::GuardFailurePc => put_option(rt, code::guard_failure_pc(code(v), n, flag(v)), "none"),
         Leaf::IsEmptyRevertGuard => put_bool(rt, code::is_empty_revert_guard(code(v), n, flag(v))),
         Leaf::IsDivisionCheck => put_bool(rt, code::is_division_check(code(v), n)),
-        Leaf::DirectWords => put_words(rt, code::direct_min_calldata_words(code(v), n)),
-        Leaf::DenseWords => put_words(rt, code::dense_min_calldata_words(code(v), n, x)),
+        Leaf::DirectWords => put_option(rt, code::direct_min_calldata_words(code(v), n), "none"),
+        Leaf::DenseWords => put_option(rt, code::dense_min_calldata_words(code(v), n, x), "none"),
     }
 }
