@@ -16,6 +16,7 @@ fn sum(out: &[u8]) -> u64 {
 
 // What the byte at an index is filled with: no ASCII.
 fn filling(i: usize) -> u8 {
+    // no `From` narrows it, and `try_from` would need an answer for what is never so
     128 + (i % 127) as u8
 }
 
