@@ -56,7 +56,8 @@ fn put_answer(answer: Result<Closing, Refusal>, types: &[u16], w: &mut Writer)
     }
 }
 
-// Closes, and stores what is printed of it at the start of the slice.
+// Closes, and stores what is printed of it at the start of the slice. It takes what the closing takes, and room: a
+// struct around what is lent would be no plainer.
 pub fn close_into(
     head: Head,
     table: &mut [u32],
