@@ -13,9 +13,7 @@ use Rattle.facts.specs.Formed.{Formed}
 use Rattle.facts.specs.Sound.{Sound}
 use Rattle.facts.proofs.States.{sound_formed, sound_exactly}
 use Rattle.labels.specs.Step.{step_of}
-use Rattle.analyze.specs.Phases.{active_after}
 use Rattle.analyze.specs.Analyze.{Machine, analyze}
-use Rattle.analyze.proofs.Proper.{cond_has}
 use Rattle.analyze.proofs.Stepping.{analyze_formed}
 use Rattle.limits.specs.Refusal.{taken}
 use Rattle.head.specs.Held.{records_in}

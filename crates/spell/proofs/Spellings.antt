@@ -18,7 +18,7 @@ pub eight_long : (c r : ℕ) → is_name c ≡ true → r ≡ length (name_text 
 eight_long c r h e = omega (arith, name_short (of_code c) (name_has_width c h))
 
 module _ (c : ℕ) where
-  -- the names of one code each
+  -- the names of one code each; a law for each arm of the match, as each has a text of its own
   pub bool_text : c ≡ 1 → ascii "bool" ≡ name_text (of_code c)
   unfolding of_code name_text
   bool_text e = ap (λ (n : ℕ). name_text (of_code n)) (sym e)
