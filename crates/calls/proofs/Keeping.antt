@@ -13,7 +13,9 @@ use Rattle.facts.specs.Formed.{Formed}
 use Rattle.facts.specs.Sound.{Sound}
 use Rattle.facts.proofs.States.{sound_formed, sound_exactly}
 use Rattle.labels.specs.Step.{step_of}
+use Rattle.analyze.specs.Phases.{active_after}
 use Rattle.analyze.specs.Analyze.{Machine, analyze}
+use Rattle.analyze.proofs.Proper.{cond_has}
 use Rattle.analyze.proofs.Stepping.{analyze_formed}
 use Rattle.limits.specs.Refusal.{taken}
 use Rattle.head.specs.Held.{records_in}
@@ -95,3 +97,12 @@ module _ (l : Lent) (bytes x : List ℕ) (h : AreU32 x) where
           let asked = subst (FirstNo (questions l bytes x)) (eqb-true number 0 z) O.asked in
           let T = taken_first l.held (tests_of l bytes x) asked in
           subst (λ (k : ℕ). SoundIn k (effect l bytes x)) same (effect_sound T.1.sound T.2)
+
+-- the decoder's flag stays 0 or 1
+pub outcome_active : (l : Lent) (bytes x : List ℕ) (number : ℕ) (l' : Lent) → Outcome l bytes x number l'
+    → l.held.head.active ≤ 1 → l'.held.head.active ≤ 1
+unfolding effect
+outcome_active l bytes x number l' O h =
+    subst (λ (k : Lent). k.held.head.active ≤ 1) (sym O.leaves)
+    (cond_has (λ (k : Lent). k.held.head.active ≤ 1) (eqb number taken) (effect l bytes x) l
+    (cond_has (λ (n : ℕ). n ≤ 1) (active_after (is_active l) (step_of x)) 1 0 (omega arith) (omega arith)) h)

@@ -39,6 +39,12 @@ module _ (ts us : AbiTypes) where
   pub formed_both : all_well_formed ts ≡ true → all_well_formed us ≡ true → all_well_formed (append ts us) ≡ true
   formed_both p q = formed_append ts us ∙ (and-eq-true_iff (all_well_formed ts) (all_well_formed us)).1 (p, q)
 
+-- no types after a list change nothing
+pub append_nil : (ts : AbiTypes) → append ts nil ≡ ts
+unfolding append
+append_nil nil = refl
+append_nil (cons t ts) = ap (cons t) (append_nil ts)
+
 -- three lists may be put together in either order
 pub append_assoc : (ts us vs : AbiTypes) → append (append ts us) vs ≡ append ts (append us vs)
 unfolding append
