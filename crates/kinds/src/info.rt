@@ -51,7 +51,7 @@ pub fn set_dynamic(facts: &mut Facts, r: u32, count: u32)
     dynamic_at(facts, r, count);
 }
 
-// `set_info` with Array(count).
+// `set_info` with Array(count). One function for both would take which kind it is and promise by cases: no plainer.
 pub fn set_array(facts: &mut Facts, r: u32, count: u32)
     requires { (1 ≤ r) × (r ≤ facts.old.used) }
     ensures { Becomes facts.old facts.new (set_array (facts_of facts.old) r count) }

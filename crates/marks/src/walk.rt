@@ -20,7 +20,7 @@ fn drop_range(facts: &mut Facts, r: u32)
 }
 
 // Clears record p and all below it. A child's number is higher than its parent's, so that fewer numbers are left above
-// it.
+// it. No `children`: an iterator would hold the facts that are written here.
 fn clear_below(facts: &mut Facts, p: u32)
     requires { (1 ≤ p) × (p ≤ facts.old.used) }
     ensures clears_below { ClearsBelow (facts_of facts.old) p (facts_of facts.new) }

@@ -39,6 +39,19 @@ Clears (SetTname p k name confidence) = ⊥
 Clears (SetDynamic p k count) = ⊥
 Clears (SetArray r count) = ⊥
 
+-- what holds of the three that it can be
+clear_cases : (P : Operation → Type 0) → P Nothing → ((p k : ℕ) (block : Bool) → P (ClearRangeHint p k block)) → P ClearRangeHints
+    → (o : Operation) → Clears o → P o
+clear_cases P none one all Nothing C = none
+clear_cases P none one all (ClearRangeHint p k block) C = one p k block
+clear_cases P none one all ClearRangeHints C = all
+clear_cases P none one all (MarkNotBool p k) C = absurd C
+clear_cases P none one all (InsertNotBool p k) C = absurd C
+clear_cases P none one all (GetOrCreate p k) C = absurd C
+clear_cases P none one all (SetTname p k name confidence) C = absurd C
+clear_cases P none one all (SetDynamic p k count) C = absurd C
+clear_cases P none one all (SetArray r count) C = absurd C
+
 -- a part that a hint is no part of stays
 module _ (g : Node → ℕ) (B : Spares g field.blocked) (N : Spares g field.name) (S : Spares g field.confidence) where
   part_dropped : (s : List Node) (r q : ℕ) → g (node_of (drop_name s r) q) ≡ g (node_of s q)
@@ -80,28 +93,15 @@ module _ (g : Node → ℕ) (B : Spares g field.blocked) (N : Spares g field.nam
 
   pub clear_part : (s : List Node) (o : Operation) → Clears o → (q : ℕ) → g (node_of (run s o) q) ≡ g (node_of s q)
   unfolding run
-  clear_part s Nothing C q = refl
-  clear_part s (ClearRangeHint p k block) C q = part_hint s p k block q
-  clear_part s ClearRangeHints C q = part_hints s q
-  clear_part s (MarkNotBool p k) C q = absurd C
-  clear_part s (InsertNotBool p k) C q = absurd C
-  clear_part s (GetOrCreate p k) C q = absurd C
-  clear_part s (SetTname p k name confidence) C q = absurd C
-  clear_part s (SetDynamic p k count) C q = absurd C
-  clear_part s (SetArray r count) C q = absurd C
+  clear_part s o C q =
+      clear_cases (λ (x : Operation). g (node_of (run s x) q) ≡ g (node_of s q)) refl (λ p k block. part_hint s p k block q) (part_hints s q) o C
 
 -- numbers, paths and lookups
 pub clear_same : (s : List Node) (o : Operation) → Clears o → SamePaths s (run s o)
 unfolding run
-clear_same s Nothing C = alike_same s s (alike_refl s)
-clear_same s (ClearRangeHint p k block) C = same_clear_range_hint s p k block
-clear_same s ClearRangeHints C = same_clear_range_hints s
-clear_same s (MarkNotBool p k) C = absurd C
-clear_same s (InsertNotBool p k) C = absurd C
-clear_same s (GetOrCreate p k) C = absurd C
-clear_same s (SetTname p k name confidence) C = absurd C
-clear_same s (SetDynamic p k count) C = absurd C
-clear_same s (SetArray r count) C = absurd C
+clear_same s o C =
+    clear_cases (λ (x : Operation). SamePaths s (run s x)) (alike_same s s (alike_refl s)) (λ p k block. same_clear_range_hint s p k block)
+    (same_clear_range_hints s) o C
 
 module _ (s : List Node) (o : Operation) (C : Clears o) where
   -- the parts of each node

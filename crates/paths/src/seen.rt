@@ -8,7 +8,8 @@ impl Facts<'_> {
     ghost use Rattle.paths.specs.Make.{make_seen};
     ghost use Rattle.paths.specs.Lent.{facts_of, Becomes};
 
-    // Makes record r seen, and each that its path continues, up to the root.
+    // Makes record r seen, and each that its path continues, up to the root. No `upward`: an iterator would hold the
+    // facts that are written here.
     pub fn make_seen(&mut self, r: u32)
         requires { (1 ≤ r) × (r ≤ self.old.used) }
         ensures { Becomes self.old self.new (make_seen (facts_of self.old) r) }

@@ -29,7 +29,8 @@ pub struct Planned {
     pub active: bool,
 }
 
-// What a plan has found: the path of a labelled load, 0 for none, and whether it is an array.
+// What a plan has found: the path of a labelled load, 0 for none, and whether it is an array. What is written reads the
+// path only where there is one, so an `Option` would have a case that none comes to.
 #[derive(Clone, Copy)]
 pub struct Ran {
     pub path: u32,
