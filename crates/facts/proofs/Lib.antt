@@ -5,7 +5,6 @@ pub mod Chains
 mod Weights
 mod Check
 mod Zeros
-mod Tests
 pub mod Whole
 pub mod Kids
 pub mod Encode

@@ -70,6 +70,7 @@ fn is_named(table: &[u32], r: u32) -> bool
 
 // Does the record pass all of these? The first test that fails is the last one: in a sound table none does, so that the
 // processor foresees the branches.
+#[tactic(auto, unfolding(crate::specs::Checks::is_record))]
 pub fn is_record(table: &[u32], r: u32) -> bool
     requires { HasRecord table.now r }
     ensures { result ≡ is_record (node_at table.now r) }
@@ -87,6 +88,7 @@ pub fn is_record(table: &[u32], r: u32) -> bool
 }
 
 // Is record 1 a root: seen, otherwise zero but for child?
+#[tactic(auto, unfolding(crate::specs::Checks::is_root))]
 pub fn is_root(table: &[u32]) -> bool
     requires { HasRecord table.now 1 }
     ensures { result ≡ is_root table.now }

@@ -33,11 +33,12 @@ fn is_under(table: &[u32], r: u32) -> bool
 }
 
 // What a record weighs.
+#[tactic(auto, unfolding(crate::specs::Weights::weight))]
 fn weight_of(table: &[u32], r: u32) -> u64
     requires { HasRecord table.now r }
     ensures { (result ≡ weight table.now r) × (result < weight_end) }
 {
-    LINK_WEIGHT + field(table, r, KEY) as u64
+    LINK_WEIGHT + u64::from(field(table, r, KEY))
 }
 
 // What links of that weight come to with one more, to record c, 0 for none, which stands in the chain of p behind one

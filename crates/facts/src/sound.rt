@@ -17,12 +17,11 @@ const LINE: usize = 16;
 // it.
 const BLOCK: usize = 16 * LINE;
 
-// How many of so many numbers stand before the next line.
-fn before_line(start: usize, count: usize) -> usize
-    ensures { result ≤ count }
+// Is every number of a part zero?
+fn is_zero(part: &[u32]) -> bool
+    ensures { Tells result (ZeroFrom part.now 0) }
 {
-    let step = LINE - start % LINE;
-    if count < step { count } else { step }
+    are_zero(part, 0, part.len())
 }
 
 // Is every number from that place on zero? Up to the next line first, so that each load lies within a line, then block
@@ -31,18 +30,10 @@ fn is_zero_from(table: &[u32], start: usize) -> bool
     requires { start ≤ length table.now }
     ensures { Tells result (ZeroFrom table.now start) }
 {
-    let first = before_line(start, table.len() - start);
-    if !are_zero(table, start, first) {
-        return false;
-    }
-    let mut at = start + first;
-    while BLOCK <= table.len() - at {
-        if !are_zero(table, at, BLOCK) {
-            return false;
-        }
-        at += BLOCK;
-    }
-    are_zero(table, at, table.len() - at)
+    let rest = &table[start..];
+    let (head, rest) = rest.split_at((LINE - start % LINE).min(rest.len()));
+    let (blocks, tail) = rest.as_chunks::<BLOCK>();
+    is_zero(head) && blocks.iter().all(|block| is_zero(block)) && is_zero(tail)
 }
 
 // Is a table of n records, as question 1 counts them, sound with that many used? It may hold any numbers; the time is
