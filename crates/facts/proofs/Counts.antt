@@ -1,6 +1,6 @@
 -- Question 1's answer, test by test, and what it says.
 use Prim.Native.Nat.{ℕ, ◌/◌, ◌%◌, ◌≤◌, ◌<◌}
-use mathlib.Core.Path.{◌≡◌, refl, sym, ap, subst, ◌∙◌}
+use mathlib.Core.Path.{◌≡◌, refl, ap, subst}
 use mathlib.Core.Bool.{Bool, true, false, cond, and-false}
 use native.Mathlib.Decide.{ℕ_discrete, dec_lt}
 use native.Mathlib.Omega.{arith}
@@ -35,19 +35,6 @@ module _ (n : ℕ) where
   unfolding record_count
   counts e h k = simp (eq-eqb (n % record_width) 0 e, le-leb 1 (n / record_width) h, le-leb (n / record_width) records_max k)
 
--- the answer's number and value are those of the test, and say which answer it is
-pub answers_so : (n : ℕ) (r : Result ℕ Refusal) → r ≡ record_count n → CountAnswer n (answer_number r) (count_of r)
-unfolding record_count
-answers_so n r e = record { number_is = ap answer_number e ∙ number (has_records n); count_is = ap count_of e ∙ count (has_records n) }
-  where
-    number : (b : Bool) → answer_number (cond b (Ok (n / record_width)) (Err NoRecords)) ≡ cond b taken (number_of NoRecords)
-    number true = refl
-    number false = refl
-
-    count : (b : Bool) → count_of (cond b (Ok (n / record_width)) (Err NoRecords)) ≡ cond b (n / record_width) 0
-    count true = refl
-    count false = refl
-
 -- only one refusal has the number of question 1
 no_records : (r : Refusal) → number_of r ≡ number_of NoRecords → r ≡ NoRecords
 no_records NoRecords e = refl
@@ -80,11 +67,6 @@ answer_is n (Err r) A = go (has_records n) A.number_is
     go true e = absurd (not_taken_number r e)
     go false e = ap Err (no_records r e)
 
--- an answer that is known to be another
-pub answered : (n : ℕ) (r q : Result ℕ Refusal) → CountAnswer n (answer_number r) (count_of r) → r ≡ q
-    → CountAnswer n (answer_number q) (count_of q)
-answered n r q A e = subst (λ (x : Result ℕ Refusal). CountAnswer n (answer_number x) (count_of x)) e A
-
 -- what each answer says
 abbrev Says : ℕ → Result ℕ Refusal → Type 0
 Says n (Ok N) = Counted n N
@@ -103,28 +85,3 @@ says n = go (ℕ_discrete (n % record_width) 0) (dec_lt (n / record_width) 1) (d
 -- question 1 taken: the table has that many records
 pub count_counted : (n N : ℕ) → record_count n ≡ Ok N → Counted n N
 count_counted n N e = subst (Says n) e (says n)
-
--- and a table that has N records is taken with that number
-pub counted_count : (n N : ℕ) → Counted n N → record_count n ≡ Ok N
-counted_count n N C =
-    let e = C.is in let s = C.some in let m = C.most in
-    let q : n / record_width ≡ N = omega arith in
-    sym (rw q at (counts n (omega arith) (omega arith) (omega arith)))
-
--- a table has one count of records
-pub count_once : (numbers N M : ℕ) → Counted numbers N → Counted numbers M → N ≡ M
-count_once numbers N M C D = let c = C.is in let d = D.is in omega arith
-
--- an answer without a number
-abbrev pub NoCount : Result ℕ Refusal → Type 0
-NoCount (Ok N) = ⊥
-NoCount (Err r) = Unit {0}
-
--- a table that is refused is so by question 1
-pub refused_count : (n : ℕ) (r : Refusal) → Err r ≡ record_count n → r ≡ NoRecords
-unfolding record_count
-refused_count n r = go (has_records n)
-  where
-    go : (b : Bool) → Err r ≡ cond b (Ok (n / record_width)) (Err NoRecords) → r ≡ NoRecords
-    go true e = absurd (cc)
-    go false e = cc

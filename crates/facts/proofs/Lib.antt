@@ -10,4 +10,3 @@ pub mod Kids
 pub mod Encode
 pub mod States
 pub mod Lone
-pub mod Telling

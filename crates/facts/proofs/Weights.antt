@@ -1,12 +1,11 @@
 -- What records and links weigh, test by test.
 use Prim.Native.Nat.{ℕ, ◌+◌, ◌≤◌, ◌<◌}
-use mathlib.Core.Path.{◌≡◌, refl, sym, ◌∙◌, subst}
+use mathlib.Core.Path.{◌≡◌, refl, sym, ◌∙◌}
 use mathlib.Core.List.{List}
 use native.Mathlib.Omega.{arith}
 use borrow.Author.Tests.{eq-eqb, ne_eqb}
 use Rattle.facts.specs.Table.{key_of, parent_of}
-use Rattle.std.specs.Prelude.{Some, None}
-use Rattle.std.specs.declared.option.Option.{Option}
+use Rattle.std.specs.Prelude.{Some}
 use Rattle.facts.specs.Weights.{link_weight, weight_end, weight, link_to, Leads, Weighs}
 
 module _ (t : List ℕ) (c : ℕ) where
@@ -22,17 +21,6 @@ module _ (t : List ℕ) (c : ℕ) where
   unfolding link_to
   link_some n = rw (ne_eqb c 0 n) refl
 
--- a link that is refused
-module _ (t : List ℕ) (u p b c : ℕ) (n : c ≡ 0 → ⊥) where
-  pub lead_far : u < c → Leads t u p b c → ⊥
-  lead_far l f = let k = (f n).0 in omega arith
-
-  pub lead_other : (v : ℕ) → v ≡ parent_of t c → (v ≡ p → ⊥) → Leads t u p b c → ⊥
-  lead_other v e d f = d (e ∙ (f n).1)
-
-  pub lead_low : (w : ℕ) → w ≡ weight t c → w ≤ b → Leads t u p b c → ⊥
-  lead_low w e l f = let k = (f n).2 in omega arith
-
 -- a link that is added to the others
 module _ (t : List ℕ) (u p b c x : ℕ) where
   pub lead_none : c ≡ 0 → Weighs (Some x) (Leads t u p b c) t c x
@@ -43,11 +31,3 @@ module _ (t : List ℕ) (u p b c x : ℕ) where
   lead_some n l v e d w q h k =
       let s = link_some t c n in
       ((λ _. (l, sym e ∙ d, omega arith)), omega arith, omega arith)
-
--- what each answer says of a link to the number that was read
-module _ (l : Option ℕ) (t : List ℕ) (u p q b a c d x : ℕ) (W : Weighs l (Leads t u p b c) t c x) (e : p ≡ q) (g : b ≡ a) (f : c ≡ d) where
-  pub led : (w : ℕ) → l ≡ Some w → Leads t u q a d × (w ≡ x + link_to t d) × (w < x + weight_end)
-  led w h = rw (← e, ← g, ← f) (subst (λ (y : Option ℕ). Weighs y (Leads t u p b c) t c x) h W)
-
-  pub not_led : l ≡ None → Leads t u q a d → ⊥
-  not_led h = rw (← e, ← g, ← f) (subst (λ (y : Option ℕ). Weighs y (Leads t u p b c) t c x) h W)

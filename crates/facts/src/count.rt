@@ -12,12 +12,8 @@ pub fn record_count(numbers: usize) -> Result<u32, Refusal>
     if numbers % RECORD_WIDTH != 0 {
         return Err(Refusal::NoRecords);
     }
-    let count = numbers / RECORD_WIDTH;
-    if count < 1 {
-        return Err(Refusal::NoRecords);
+    match u32::try_from(numbers / RECORD_WIDTH) {
+        Ok(count) if (1..=RECORDS_MAX).contains(&count) => Ok(count),
+        _ => Err(Refusal::NoRecords),
     }
-    if (RECORDS_MAX as usize) < count {
-        return Err(Refusal::NoRecords);
-    }
-    Ok(count as u32)
 }
