@@ -39,8 +39,8 @@ fn tally_code(t: Tally, code: u16) -> Option<Tally>
             length: length + 2,
         },
         CodeKind::Tuple(n) => Tally {
-            wanted: wanted + n as usize,
-            length: length + (n as usize + 1),
+            wanted: wanted + usize::from(n),
+            length: length + (usize::from(n) + 1),
         },
     })
 }

@@ -85,8 +85,7 @@ fn write_code(code: u16, last: bool, held: &mut Held, w: &mut Writer)
         Ok(CodeKind::Name) => write_name(code, last, held, w),
         Ok(CodeKind::Array) => held.push(0),
         Ok(CodeKind::Tuple(n)) => {
-            // no `From` narrows it; a level that is held at two bytes takes half the fixed room of a u32
-            held.push(n as u16);
+            held.push(n);
             w.put(b"(");
         }
         Err(_) => {}

@@ -13,7 +13,7 @@ fn following(code: u16) -> usize
 {
     match CodeKind::try_from(code) {
         Ok(CodeKind::Array) => 1,
-        Ok(CodeKind::Tuple(n)) => n as usize,
+        Ok(CodeKind::Tuple(n)) => usize::from(n),
         Ok(CodeKind::Name) | Err(_) => 0,
     }
 }

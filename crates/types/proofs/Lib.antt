@@ -6,5 +6,4 @@ pub mod Roots
 pub mod Sizes
 pub mod Unique
 pub mod Nodes
-pub mod Joined
 pub mod Shorts

@@ -12,7 +12,7 @@ use std::fmt;
 pub enum CodeKind {
     Name,
     Array,
-    Tuple(u32),
+    Tuple(u16),
 }
 
 // A number with which no type begins.
@@ -28,7 +28,7 @@ impl TryFrom<u16> for CodeKind {
     fn try_from(code: u16) -> Result<Self, UnknownCode> {
         match u32::from(code) {
             ARRAY => Ok(CodeKind::Array),
-            number if TUPLE + 2 <= number => Ok(CodeKind::Tuple(number - TUPLE)),
+            number if TUPLE + 2 <= number => Ok(CodeKind::Tuple((number - TUPLE) as u16)),
             number if is_name(number) => Ok(CodeKind::Name),
             _ => Err(UnknownCode(code)),
         }
