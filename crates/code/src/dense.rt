@@ -36,6 +36,7 @@ fn is_dense(code: &[u8], at: usize, size: usize) -> bool
         & compares_size(code, at + 3 + size)
 }
 
+// By `as`, for no `From` narrows: what a mask of 32 bits leaves fits, as is proved.
 fn masked(packed: U256, mask: u32) -> u32
     ensures { result ≡ bit_and (value_of packed) mask }
 {

@@ -5,15 +5,10 @@ use lib.Arith.{digits_lt}
 use lib.Bits.{bit_and, and_block}
 use lib.Count.{ones, ones_cat}
 use Rattle.word.specs.Value.{value}
-use Rattle.word.specs.declared.U256.{U256}
 
 -- a word stands for a number below 2^256
 pub value_lt : {l3 l2 l1 l0 : ℕ} → l3 < 2 ^ 64 → l2 < 2 ^ 64 → l1 < 2 ^ 64 → l0 < 2 ^ 64 → value l3 l2 l1 l0 < 2 ^ 256
 value_lt h3 h2 h1 h0 = digits_lt (digits_lt (digits_lt h3 h2) h1) h0
-
--- each limb of x is below 2^64
-abbrev pub LimbsFit : U256 → Type 0
-LimbsFit x = (x.l3 < 2 ^ 64) × (x.l2 < 2 ^ 64) × (x.l1 < 2 ^ 64) × (x.l0 < 2 ^ 64)
 
 -- AND limb by limb is AND of the words
 pub and_is : (x3 x2 x1 x0 y3 y2 y1 y0 : ℕ) → x2 < 2 ^ 64 → x1 < 2 ^ 64 → x0 < 2 ^ 64 → y2 < 2 ^ 64 → y1 < 2 ^ 64 → y0 < 2 ^ 64 →

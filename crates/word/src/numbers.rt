@@ -26,6 +26,7 @@ pub fn from_numbers(s: &[u32], at: usize) -> U256
     }
 }
 
+// Stores the halves of a limb, the higher first: by `as`, for no `From` narrows; each fits, as is proved.
 fn put_limb(s: &mut [u32], at: usize, limb: u64)
     requires { at + 2 ≤ length s.old }
     ensures { s.new ≡ sets s.old at (limb_numbers limb) }

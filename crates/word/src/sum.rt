@@ -5,7 +5,6 @@ ghost use Rattle.word.specs.Arithmetic.{sum_of};
 ghost use Rattle.word.specs.Kept.{kept_of};
 
 use crate::U256;
-use crate::compare::below_number;
 
 // The sum modulo 2^256.
 pub fn add(x: U256, y: U256) -> U256
@@ -19,13 +18,13 @@ pub fn add(x: U256, y: U256) -> U256
 }
 
 // "Kept if below 2^32": what is left of x.
+#[tactic(auto, unfolding(crate::specs::Kept::kept_of))]
 pub fn keep(x: U256) -> Option<u32>
     ensures { result ≡ kept_of (value_of x) }
 {
-    if below_number(x, 0x1_0000_0000) {
-        Some(x.l0 as u32)
-    } else {
-        None
+    match (x.l3, x.l2, x.l1, u32::try_from(x.l0)) {
+        (0, 0, 0, Ok(n)) => Some(n),
+        _ => None,
     }
 }
 
