@@ -1,5 +1,5 @@
 -- The text of a name by its code, with its length.
-use mathlib.Core.Path.{◌≡◌, sym, ap}
+use mathlib.Core.Path.{◌≡◌}
 use mathlib.Core.Bool.{true}
 use mathlib.Core.List.{◌++◌}
 use Prim.Native.Nat.{ℕ, ◌-◌, ◌≤◌, ◌<◌}
@@ -18,23 +18,6 @@ pub eight_long : (c r : ℕ) → is_name c ≡ true → r ≡ length (name_text 
 eight_long c r h e = omega (arith, name_short (of_code c) (name_has_width c h))
 
 module _ (c : ℕ) where
-  -- the names of one code each; a law for each arm of the match, as each has a text of its own
-  pub bool_text : c ≡ 1 → ascii "bool" ≡ name_text (of_code c)
-  unfolding of_code name_text
-  bool_text e = ap (λ (n : ℕ). name_text (of_code n)) (sym e)
-
-  pub address_text : c ≡ 2 → ascii "address" ≡ name_text (of_code c)
-  unfolding of_code name_text
-  address_text e = ap (λ (n : ℕ). name_text (of_code n)) (sym e)
-
-  pub bytes_text : c ≡ 3 → ascii "bytes" ≡ name_text (of_code c)
-  unfolding of_code name_text
-  bytes_text e = ap (λ (n : ℕ). name_text (of_code n)) (sym e)
-
-  pub string_text : c ≡ 4 → ascii "string" ≡ name_text (of_code c)
-  unfolding of_code name_text
-  string_text e = ap (λ (n : ℕ). name_text (of_code n)) (sym e)
-
   -- the names with a width
   pub uint_text : 1000 ≤ c → c < 2000 → ascii "uint" ++ decimal (c - 1000) ≡ name_text (of_code c)
   unfolding name_text
@@ -50,10 +33,6 @@ module _ (c : ℕ) where
 
 -- what the text of each name and its length follow from
 pub ruleset spellings = (
-  bool_text,
-  address_text,
-  bytes_text,
-  string_text,
   uint_text,
   int_text,
   fixed_text,

@@ -17,7 +17,7 @@ fn decimal_length(n: u32) -> usize
 }
 
 // How many bytes the text of a name has.
-#[tactic(auto, using(crate::proofs::Spellings::spellings))]
+#[tactic(auto, using(crate::proofs::Spellings::spellings), unfolding(names::specs::Elementary::of_code, names::specs::Text::name_text))]
 pub fn name_length(code: u32) -> usize
     requires { is_name code ≡ true }
     ensures { (result ≡ length (name_text (of_code code))) × (result ≤ 8) }
@@ -35,7 +35,7 @@ pub fn name_length(code: u32) -> usize
 
 impl Writer<'_> {
     // The text of a name.
-    #[tactic(auto, using(crate::proofs::Spellings::spellings))]
+    #[tactic(auto, using(crate::proofs::Spellings::spellings), unfolding(names::specs::Elementary::of_code, names::specs::Text::name_text))]
     pub fn put_name(&mut self, code: u32)
         requires { (is_name code ≡ true) × (self.old.to + length (name_text (of_code code)) ≤ length self.old.out.now) }
         ensures stored { Puts (name_text (of_code code)) self.old self.new }
