@@ -85,14 +85,7 @@ module _ (t : List ℕ) where
 
   pub root_is : Root t → is_root t ≡ true
   unfolding is_root
-  root_is R = six_true (eqb (seen_of t 1) 1) (eqb (key_of t 1) 0) (eqb (parent_of t 1) 0) (eqb (next_of t 1) 0) (eqb (not_bool_of t 1) 0) (is_bare (node_at t 1)) (record {
-    first = eq-eqb (seen_of t 1) 1 R.seen;
-    second = eq-eqb (key_of t 1) 0 R.key;
-    third = eq-eqb (parent_of t 1) 0 R.parent;
-    fourth = eq-eqb (next_of t 1) 0 R.next;
-    fifth = eq-eqb (not_bool_of t 1) 0 R.not_bool;
-    sixth = R.last_five;
-  })
+  root_is R = rw (R.seen, R.key, R.parent, R.next, R.not_bool, R.last_five)
 
   -- a root passes the tests of every record
   pub root_fact : Root t → is_record (node_at t 1) ≡ true
