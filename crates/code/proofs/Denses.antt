@@ -3,14 +3,12 @@ use mathlib.Core.Path.{◌≡◌, refl, sym, ap, ◌∙◌}
 use mathlib.Core.Bool.{Bool, true, false, not, ◌&&◌, true≢false}
 use mathlib.Core.List.{List}
 use Prim.Native.Nat.{ℕ, ◌+◌, ◌*◌, ◌^◌, ◌≤◌, ◌<◌}
-use native.Mathlib.Nat.{zero-mul, zero-add, lt_of_le_of_lt}
+use native.Mathlib.Nat.{zero-mul, zero-add}
 use native.Mathlib.Omega.{arith}
 use borrow.Author.Tests.{leb-true, not-false}
-use lib.Bits.{bit_and, and_block, and_le_r, and_zero_r}
+use lib.Bits.{bit_and, and_block, and_zero_r}
 use lib.Dec.{leb}
 use lib.ListN.{length}
-use mir.Syntax.{w32}
-use mir.Val.{Fits}
 use Rattle.word.specs.Value.{value}
 use Rattle.opcode.specs.Opcode.{AND, DUP1}
 use Rattle.code.specs.Bytes.{is_at}
@@ -47,3 +45,6 @@ module _ (l3 l2 l1 l0 m : ℕ) (h : l0 < 2 ^ 64) (hm : m < 2 ^ 32) where
       let up : m ≡ 0 * 2 ^ 64 + m = omega arith in
       let down : bit_and high 0 * 2 ^ 64 + bit_and l0 m ≡ bit_and l0 m = simp (and_zero_r, zero-mul, zero-add) in
       sym (ap (λ (k : ℕ). bit_and (value l3 l2 l1 l0) k) up ∙ and_block 64 high 0 l0 m h (omega arith) ∙ down)
+
+-- what the shape says of the size of its push
+pub ruleset shapes = (shape_inside, shape_least, shape_most)

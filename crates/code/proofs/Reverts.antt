@@ -24,9 +24,6 @@ from_place : (l : List ℕ) (a : ℕ) → take (length l - a) (drop a l) ≡ dro
 from_place l a = take_all (length l - a) (drop a l) (simp length-drop (omega arith))
 
 module _ (code : List ℕ) (at : ℕ) where
-  pub revert_part : (r : Bool) → r ≡ is_empty_revert (take (length code - at) (drop at code)) → r ≡ revert_at code (Some at)
-  revert_part r e = e ∙ ap is_empty_revert (from_place code at)
-
   pub revert_past : (length code < at) ⊎ (length code < length code) → false ≡ revert_at code (Some at)
   unfolding is_empty_revert after_jumpdest begins_any empty_reverts begins
   revert_past (inl h) = ap is_empty_revert (sym (drop_of_length-le code (omega arith)))

@@ -5,6 +5,7 @@ ghost use Rattle.code.specs.Bytes.{is_at, past_byte, push_size_at, number_at};
 use opcode::push_size;
 
 // Does the byte b stand at the place?
+#[tactic(auto, using(crate::proofs::Places::byte_law, crate::proofs::Places::item_copied))]
 pub fn byte_is(code: &[u8], at: usize, b: u8) -> bool
     ensures { result ≡ is_at code.now at b }
 {
@@ -21,6 +22,7 @@ pub fn past_byte(code: &[u8], pc: u32, b: u8) -> usize
 }
 
 // How many bytes the PUSH1 to PUSH4 at the place pushes, if one of them stands there.
+#[tactic(auto, using(crate::proofs::Places::push_some, crate::proofs::Places::push_none))]
 pub fn push_size_at(code: &[u8], at: usize) -> Option<usize>
     ensures { (result ≡ push_size_at code.now at) × IfSome result (λ n. n ≤ 4) }
 {

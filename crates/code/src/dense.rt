@@ -37,6 +37,7 @@ fn is_dense(code: &[u8], at: usize, size: usize) -> bool
 }
 
 // By `as`, for no `From` narrows: what a mask of 32 bits leaves fits, as is proved.
+#[tactic(auto, using(crate::proofs::Denses::masked_law))]
 fn masked(packed: U256, mask: u32) -> u32
     ensures { result ≡ bit_and (value_of packed) mask }
 {
@@ -44,7 +45,7 @@ fn masked(packed: U256, mask: u32) -> u32
 }
 
 // The length in bytes, if the code reads it so.
-#[tactic(auto, unfolding(crate::specs::Dense::dense_size))]
+#[tactic(auto, using(crate::proofs::Denses::shapes), unfolding(crate::specs::Dense::dense_size))]
 fn dense_min_size(code: &[u8], pc: u32, packed: U256) -> Option<u32>
     ensures { result ≡ dense_size code.now pc (value_of packed) }
 {

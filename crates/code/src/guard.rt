@@ -23,7 +23,7 @@ pub fn guard_failure_pc(code: &[u8], pc: u32, less_than: bool) -> Option<usize>
 }
 
 // Only empty-revert guards are candidates for range validation.
-#[tactic(auto, unfolding(crate::specs::Guard::is_empty_revert_guard))]
+#[tactic(auto, using(crate::proofs::Reverts::revert_past), unfolding(crate::specs::Guard::is_empty_revert_guard))]
 pub fn is_empty_revert_guard(code: &[u8], pc: u32, less_than: bool) -> bool
     ensures { result ≡ is_empty_revert_guard code.now pc less_than }
 {

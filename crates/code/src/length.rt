@@ -29,7 +29,7 @@ pub fn compares_size(code: &[u8], at: usize) -> bool
 }
 
 // PUSH1 to PUSH4 of the length, CALLDATASIZE, LT: the length in bytes, if the code reads so.
-#[tactic(auto, unfolding(crate::specs::Length::direct_size))]
+#[tactic(auto, using(crate::proofs::Lengths::compares_inside), unfolding(crate::specs::Length::direct_size))]
 fn direct_min_size(code: &[u8], pc: u32) -> Option<u32>
     ensures { result ≡ direct_size code.now pc }
 {

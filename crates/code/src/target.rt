@@ -6,7 +6,7 @@ use crate::Jump;
 use crate::bytes::{byte_is, number_at, push_size_at};
 use opcode::JUMPI;
 
-#[tactic(auto, unfolding(crate::specs::Jump::jump_at))]
+#[tactic(auto, using(crate::proofs::Places::stands_inside), unfolding(crate::specs::Jump::jump_at))]
 pub fn jump_at(code: &[u8], at: usize) -> Option<Jump>
     requires { at ≤ 2 ^ 32 }
     ensures { result ≡ jump_at code.now at }

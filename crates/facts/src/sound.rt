@@ -18,6 +18,7 @@ const LINE: usize = 16;
 const BLOCK: usize = 16 * LINE;
 
 // Is every number of a part zero?
+#[tactic(auto, using(crate::proofs::Zeros::zeros_tell))]
 fn is_zero(part: &[u32]) -> bool
     ensures { Tells result (ZeroFrom part.now 0) }
 {

@@ -141,3 +141,6 @@ leading_counted m o c = count_same leading_ff m 32 once o (leading_bytes m) c (l
 
     once : Once leading_ff m 32
     once i j p q e = shape_once leading_ff _ m _ (leading_shape m (2 ^ 256 - 1 - m) (below i e) refl) i j p q e
+
+-- what a count of low bytes follows from, case by case
+pub ruleset low_counts = (low_whole, low_empty, low_broken, low_lost)

@@ -32,3 +32,6 @@ module _ (m : ℕ) where
 
     pub name_none : None ≡ leading_bytes m → no_name ≡ and_mask_to_type m
     name_none ed = simp (name_by_bytes, ← el, ← ed)
+
+-- what a mask names, case by case
+pub ruleset names = (name_address, name_uint, name_bytes, name_none)

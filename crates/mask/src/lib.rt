@@ -25,6 +25,7 @@ fn low_run(m: U256) -> Option<u32>
 }
 
 // How many whole bytes of low ones m is, if it is such a mask.
+#[tactic(auto, using(crate::proofs::ByteCounts::low_counts))]
 fn low_bytes(m: U256) -> Option<u32>
     ensures { (result ≡ low_bytes (value_of m)) × IfSome result (λ n. n ≤ 32) }
 {
@@ -46,6 +47,7 @@ fn leading_bytes(m: U256) -> Option<u32>
 
 // The name that a mask gives. A name is a number of the format, in which a record's name is stored; there 0, NO_NAME,
 // stands for none.
+#[tactic(auto, using(crate::proofs::Names::names))]
 pub fn and_mask_to_type(m: U256) -> u32
     ensures { result ≡ and_mask_to_type (value_of m) }
 {

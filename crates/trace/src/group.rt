@@ -34,6 +34,7 @@ pub fn entry_count(bytes: &[u8]) -> u32
 }
 
 // How many bytes follow the front, by its two counts; none where they are over the sizes.
+#[tactic(auto, using(crate::proofs::GroupLaws::rest_over, crate::proofs::GroupLaws::rest_bytes_lem))]
 pub fn group_rest(bytes: &[u8]) -> Option<usize>
     requires { front_bytes ≤ length bytes.now }
     ensures rest { result ≡ group_rest bytes.now }

@@ -4,6 +4,7 @@ ghost use Rattle.word.specs.Value.{value_of};
 
 use crate::U256;
 
+#[tactic(auto, using(crate::proofs::Limbs::and_is))]
 pub fn and(x: U256, y: U256) -> U256
     ensures { value_of result ≡ bit_and (value_of x) (value_of y) }
 {
@@ -27,6 +28,7 @@ pub fn not(x: U256) -> U256
 }
 
 // How many bits of x are set.
+#[tactic(auto, using(crate::proofs::Limbs::ones_joined))]
 pub fn count_ones(x: U256) -> u32
     ensures { result ≡ count_ones (value_of x) }
 {

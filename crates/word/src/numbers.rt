@@ -14,6 +14,7 @@ fn joined(high: u32, low: u32) -> u64
 }
 
 // The word at an index of s.
+#[tactic(auto, using(crate::proofs::EightNumbers::read_limbs, crate::proofs::EightNumbers::read_value))]
 pub fn from_numbers(s: &[u32], at: usize) -> U256
     requires { at + 8 ≤ length s.now }
     ensures { (result ≡ limbs_at s.now at) × (value_of result ≡ word_at s.now at) }
