@@ -8,13 +8,8 @@ use native.Mathlib.Omega.{arith}
 use lib.Dec.{eqb, ltb}
 use lib.ListN.{length}
 use borrow.Author.Tests.{eq-eqb, ne_eqb}
-use Rattle.facts.specs.Table.{child_of, next_of}
 use Rattle.facts.specs.Links.{In}
-use Rattle.facts.specs.State.{Node, nodes, node_of, ins, kids, kids_in}
-use Rattle.facts.specs.Linked.{kids_of}
-use Rattle.facts.proofs.Encode.{length_nodes, kids_nodes}
-use Rattle.paths.specs.Shape.{Shaped}
-use Rattle.paths.proofs.Tail.{Tail, More, tail_more, tail_none, tail_start}
+use Rattle.facts.specs.State.{Node, node_of, ins, kids, kids_in}
 use Rattle.list.specs.Seen.{seen_ones, children_in, is_empty, is_lone_kindless, last_from, last_key}
 use Rattle.list.specs.Looks.{kind_from, Looked}
 use Rattle.list.specs.declared.Children.{Children}
@@ -56,79 +51,60 @@ pub seen_no : (s : List Node) (r : ℕ) (rs : List ℕ) → ((node_of s r).seen 
 unfolding seen_ones
 seen_no s r rs n = rw (ne_eqb (node_of s r).seen 1 n) refl
 
--- what was seen so far and the children that are left at c come to all of them
-pub record Looking (t : List ℕ) (u r count last kind c : ℕ) : Type 0 where
-  pub ns : List ℕ
-  pub tail : Tail t u r c ns
-  pub counted : count + length (seen_ones (nodes t u) ns) ≡ length (children_in (nodes t u) r)
-  pub key : last_from (nodes t u) last (seen_ones (nodes t u) ns) ≡ last_key (nodes t u) r
-  pub kinds : kind_from (nodes t u) kind (seen_ones (nodes t u) ns) ≡ kind_from (nodes t u) 0 (children_in (nodes t u) r)
+-- a walk of r's children has ns before it: what was seen so far and they come to all of them
+pub record Looking (s : List Node) (r count last kind : ℕ) (ns : List ℕ) : Type 0 where
+  pub kids : (m : ℕ) → In m ns → In m (kids_in s r)
+  pub counted : count + length (seen_ones s ns) ≡ length (children_in s r)
+  pub key : last_from s last (seen_ones s ns) ≡ last_key s r
+  pub kinds : kind_from s kind (seen_ones s ns) ≡ kind_from s 0 (children_in s r)
 
-module _ (t : List ℕ) (u r : ℕ) where
-  pub looking_start : (N c : ℕ) → Shaped t u N → 1 ≤ r → r ≤ u → c ≡ child_of t r → Looking t u r 0 0 0 c
-  looking_start N c S r1 ru e =
-      let k = sym (kids_nodes t u r) in
-      record {
-        ns = kids_of t u r;
-        tail = tail_start t u r S.linked r1 ru c e;
-        counted = let a = ap (λ (ms : List ℕ). length (seen_ones (nodes t u) ms)) k in omega arith;
-        key = ap (λ (ms : List ℕ). last_from (nodes t u) 0 (seen_ones (nodes t u) ms)) k;
-        kinds = ap (λ (ms : List ℕ). kind_from (nodes t u) 0 (seen_ones (nodes t u) ms)) k;
-      }
+pub looking_start : (s : List Node) (r : ℕ) (ns : List ℕ) → ns ≡ kids_in s r → Looking s r 0 0 0 ns
+looking_start s r ns e = rw e (record { kids = λ m i. i; counted = omega arith; key = refl; kinds = refl })
 
-  module _ (count last kind c : ℕ) (I : Looking t u r count last kind c) where
-    pub looking_done : (a : Children) → a.count ≡ count → a.last_key ≡ last → a.last_kind ≡ kind → c ≡ 0 → Looked (nodes t u) r a
-    unfolding seen_ones last_from kind_from
-    looking_done a p q w z =
-        let e = tail_none t u r c I.ns I.tail z in
+module _ (s : List Node) (r count last kind : ℕ) (ms : List ℕ) (I : Looking s r count last kind ms) where
+  pub looking_done : (a : Children) → a.count ≡ count → a.last_key ≡ last → a.last_kind ≡ kind → ms ≡ [] → Looked s r a
+  unfolding seen_ones last_from kind_from
+  looking_done a p q w e = record {
+    count = p ∙ (let h = rw e at I.counted in omega arith);
+    last = q ∙ (rw e at I.key);
+    kind = w ∙ (rw e at I.kinds);
+  }
+
+  module _ (ns : List ℕ) (c : ℕ) (is : ms ≡ c ∷ ns) where
+    pub looking_kid : In c (kids_in s r)
+    looking_kid = I.kids c (rw is (inl refl))
+
+    -- there are no more of them than records
+    pub looking_fits : (node_of s c).seen ≡ 1 → length s < 2 ^ 32 → count + 1 < 2 ^ 32
+    unfolding kids_in
+    looking_fits o h =
+        let a = ap length (seen_yes s c ns o) in
+        let b = ap (λ (l : List ℕ). length (seen_ones s l)) is in
+        let d = I.counted in
+        let f = seen_length s (kids_in s r) in
+        let g = kids_length (λ x. (node_of s x).key) (λ x. (node_of s x).parent) r (length s) in
+        omega arith
+
+    pub looking_seen : (node_of s c).seen ≡ 1 → Looking s r (count + 1) (node_of s c).key (node_of s c).kind ns
+    unfolding last_from kind_from
+    looking_seen o =
+        let y : seen_ones s ms ≡ c ∷ seen_ones s ns = ap (seen_ones s) is ∙ seen_yes s c ns o in
         record {
-          count = p ∙ (let h = rw e at I.counted in omega arith);
-          last = q ∙ (rw e at I.key);
-          kind = w ∙ (rw e at I.kinds);
+          kids = λ m i. I.kids m (rw is (inr i));
+          counted = let a = ap length y in let b = I.counted in omega arith;
+          key = rw y at I.key;
+          kinds = rw y at I.kinds;
         }
 
-    module _ (n : c ≡ 0 → ⊥) where
-      split : More t u r c I.ns
-      split = tail_more t u r c I.ns I.tail n
-
-      -- there are no more of them than records
-      pub looking_fits : (node_of (nodes t u) c).seen ≡ 1 → u < 2 ^ 32 → count + 1 < 2 ^ 32
-      unfolding kids_in
-      looking_fits o h =
-          let a = ap length (seen_yes (nodes t u) c split.rest o) in
-          let b = ap (λ (ms : List ℕ). length (seen_ones (nodes t u) ms)) split.is in
-          let d = I.counted in
-          let f = seen_length (nodes t u) (kids_in (nodes t u) r) in
-          let g = kids_length (λ x. (node_of (nodes t u) x).key) (λ x. (node_of (nodes t u) x).parent) r (length (nodes t u)) in
-          let l = length_nodes t u in
-          omega arith
-
-      pub looking_seen : (count' last' kind' c' : ℕ) → (node_of (nodes t u) c).seen ≡ 1 → count' ≡ count + 1 → last' ≡ (node_of (nodes t u) c).key
-          → kind' ≡ (node_of (nodes t u) c).kind → c' ≡ next_of t c → Looking t u r count' last' kind' c'
-      unfolding last_from kind_from
-      looking_seen count' last' kind' c' o p q w x =
-          let y : seen_ones (nodes t u) I.ns ≡ c ∷ seen_ones (nodes t u) split.rest =
-          ap (seen_ones (nodes t u)) split.is ∙ seen_yes (nodes t u) c split.rest o in
-          record {
-            ns = split.rest;
-            tail = rw x split.tail;
-            counted = let a = ap length y in let b = I.counted in omega arith;
-            key = ap (λ (k : ℕ). last_from (nodes t u) k (seen_ones (nodes t u) split.rest)) q ∙ (rw y at I.key);
-            kinds = ap (λ (k : ℕ). kind_from (nodes t u) k (seen_ones (nodes t u) split.rest)) w ∙ (rw y at I.kinds);
-          }
-
-      pub looking_unseen : (count' last' kind' c' : ℕ) → ((node_of (nodes t u) c).seen ≡ 1 → ⊥) → count' ≡ count → last' ≡ last → kind' ≡ kind
-          → c' ≡ next_of t c → Looking t u r count' last' kind' c'
-      looking_unseen count' last' kind' c' o p q w x =
-          let y : seen_ones (nodes t u) I.ns ≡ seen_ones (nodes t u) split.rest =
-          ap (seen_ones (nodes t u)) split.is ∙ seen_no (nodes t u) c split.rest o in
-          record {
-            ns = split.rest;
-            tail = rw x split.tail;
-            counted = let a = ap length y in let b = I.counted in omega arith;
-            key = ap (λ (k : ℕ). last_from (nodes t u) k (seen_ones (nodes t u) split.rest)) q ∙ (rw y at I.key);
-            kinds = ap (λ (k : ℕ). kind_from (nodes t u) k (seen_ones (nodes t u) split.rest)) w ∙ (rw y at I.kinds);
-          }
+    pub looking_unseen : ((node_of s c).seen ≡ 1 → ⊥) → Looking s r count last kind ns
+    looking_unseen o =
+        let y : seen_ones s ms ≡ seen_ones s ns = ap (seen_ones s) is ∙ seen_no s c ns o in
+        record {
+          kids = λ m i. I.kids m (rw is (inr i));
+          counted = let a = ap length y in let b = I.counted in omega arith;
+          key = rw y at I.key;
+          kinds = rw y at I.kinds;
+        }
 
 -- none, and one alone, by how many there are
 pub empty_is : (ms : List ℕ) → is_empty ms ≡ eqb (length ms) 0

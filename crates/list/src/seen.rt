@@ -8,8 +8,7 @@ use crate::Children;
 use limits::WORD_BYTES;
 use paths::Facts;
 
-// Unseen records stand in the chain and are passed over. A record often stands in the chain right behind the one before
-// it: where it does, the walk counts on instead of waiting for the number that it loads.
+// Unseen records stand in the chain and are passed over.
 pub fn seen_children(facts: &Facts, r: u32) -> Children
     requires { (1 ≤ r) × (r ≤ facts.now.used) }
     ensures { Looked (facts_of facts.now) r result }
@@ -17,21 +16,11 @@ pub fn seen_children(facts: &Facts, r: u32) -> Children
     let mut count: u32 = 0;
     let mut last_key: u32 = 0;
     let mut last_kind: u32 = 0;
-    let mut next = facts.child(r);
-    while next != 0 {
-        let mut c = next;
-        loop {
-            if facts.is_seen(c) {
-                count += 1;
-                last_key = facts.key(c);
-                last_kind = facts.kind(c);
-            }
-            let follow = c as usize + 1;
-            next = facts.next(c);
-            if next as usize != follow {
-                break;
-            }
-            c = follow as u32;
+    for c in facts.children(r) {
+        if facts.is_seen(c) {
+            count += 1;
+            last_key = facts.key(c);
+            last_kind = facts.kind(c);
         }
     }
     Children {
