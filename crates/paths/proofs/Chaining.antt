@@ -1,5 +1,6 @@
 -- A walk of a chain gives its records one by one.
-use Rattle.std.proofs.Common.{◌≡◌, ℕ, ◌+◌, ◌≤◌, List, [], ◌∷◌, ◌⊎◌, inl, inr, sym, refl, ap, subst, ◌∙◌, arith}
+use Rattle.std.proofs.Common.{◌≡◌, ℕ, ◌+◌, ◌≤◌, List, [], ◌∷◌, ◌⊎◌, inl, inr, length, sym, refl, ap, subst, ◌∙◌, arith}
+use native.Mathlib.Decide.{ℕ_discrete}
 use borrow.Author.Tests.{eq-eqb, ne_eqb}
 use Rattle.facts.specs.Table.{key_of, next_of, child_of}
 use Rattle.facts.specs.State.{nodes, kids_in}
@@ -57,6 +58,15 @@ module _ (t : List ℕ) where
           ∙ ap (λ (x : List ℕ). c ∷ x) (sym (from_later (next_of t c) m ms (other n)))
 
   module _ (u p : ℕ) (L : Linked t u) (p1 : 1 ≤ p) (pu : p ≤ u) where
+    -- what stands behind a child, or first for 0, is a child
+    pub kid_after : (prev c : ℕ) → ((prev ≡ 0 → ⊥) → Kid t u p prev) → (prev ≡ 0 → c ≡ child_of t p) → ((prev ≡ 0 → ⊥) → c ≡ next_of t prev)
+        → (c ≡ 0 → ⊥) → Kid t u p c
+    kid_after prev c K e q n = go (ℕ_discrete prev 0)
+      where
+        go : Dec (prev ≡ 0) → Kid t u p c
+        go (yes z) = rw (e z) ((L.child p p1 pu).kid (rw (e z) at n))
+        go (no m) = rw (q m) ((L.next p prev p1 (K m)).kid (rw (q m) at n))
+
     pub left_all : (c : ℕ) → c ≡ child_of t p → from_on c (kids_in (nodes t u) p) ≡ kids_in (nodes t u) p
     left_all c e = rw (kids_nodes t u p) (rw e (from_first (child_of t p) (kids_of t u p) (chain_kids t u p L p1 pu)))
 
@@ -73,3 +83,27 @@ module _ (t : List ℕ) where
   -- a record of a chain is a child
   pub left_kid : (u p m : ℕ) → In m (kids_in (nodes t u) p) → Kid t u p m
   left_kid u p m i = kids_in_lem t p u m (rw (kids_nodes t u p) at i)
+
+-- lists by their first
+abbrev first : List ℕ → ℕ
+first [] = 0
+first (x ∷ xs) = x
+
+abbrev others : List ℕ → List ℕ
+others [] = []
+others (x ∷ xs) = xs
+
+pub nil_cons : (c : ℕ) (cs : List ℕ) → [] ≡ c ∷ cs → ⊥
+nil_cons c cs e = let l = ap length e in omega arith
+
+pub tail_of : {c d : ℕ} {cs ds : List ℕ} → c ∷ cs ≡ d ∷ ds → cs ≡ ds
+tail_of e = ap others e
+
+-- what a walk begins with
+pub from_head : (x : ℕ) (ys : List ℕ) (c : ℕ) (cs : List ℕ) → from_on x ys ≡ c ∷ cs → x ≡ c
+from_head x [] c cs e = absurd (nil_cons c cs e)
+from_head x (y ∷ ys) c cs e = go (ℕ_discrete x y) (from_head x ys c cs)
+  where
+    go : Dec (x ≡ y) → (from_on x ys ≡ c ∷ cs → x ≡ c) → x ≡ c
+    go (yes q) f = q ∙ ap first (sym (from_here x y ys q) ∙ e)
+    go (no n) f = f (sym (from_later x y ys n) ∙ e)

@@ -4,6 +4,7 @@ pub mod RunLaws
 pub mod Tail
 pub mod Chaining
 pub mod Climbing
+pub mod Behind
 pub mod Spotting
 mod Growth
 pub mod Finds

@@ -15,18 +15,31 @@ pub struct Chain<'f, 'a> {
 }
 
 impl Facts<'_> {
+    ghost use Rattle.facts.specs.Table.{child_of, next_of};
     ghost use Rattle.facts.specs.State.{kids_in};
     ghost use Rattle.paths.specs.Lent.{facts_of};
-    ghost use Rattle.paths.specs.Walking.{chain_left};
+    ghost use Rattle.paths.specs.Walking.{from_on, chain_left};
 
     pub fn children(&self, r: u32) -> Chain<'_, '_>
         requires { (1 ≤ r) × (r ≤ self.now.used) }
         ensures { chain_left result ≡ kids_in (facts_of self.now) r }
     {
+        self.children_behind(r, 0)
+    }
+
+    // Those behind the child prev, all of them for 0.
+    pub(crate) fn children_behind(&self, parent: u32, prev: u32) -> Chain<'_, '_>
+        requires le_parent { (1 ≤ parent) × (parent ≤ self.now.used) }
+        requires kid { (prev ≢ 0) → Kid self.now.table.now self.now.used parent prev }
+        ensures { (prev ≡ 0 → chain_left result
+            ≡ from_on (child_of self.now.table.now parent) (kids_in (facts_of self.now) parent))
+            × ((prev ≢ 0) → chain_left result
+            ≡ from_on (next_of self.now.table.now prev) (kids_in (facts_of self.now) parent)) }
+    {
         Chain {
             facts: self,
-            parent: r,
-            next: self.child(r),
+            parent,
+            next: self.behind(parent, prev),
         }
     }
 }

@@ -44,29 +44,18 @@ impl Facts<'_> {
     ghost use Rattle.paths.specs.Lent.{facts_of, Grows};
 
     // Where a key stands or goes among the children of parent, looked for behind one with a lower key, or from the
-    // first on for 0. A record often stands in the chain right behind the one before it: where it does, the walk counts
-    // on instead of waiting for the number that it loads.
+    // first on for 0.
     fn place_behind(&self, parent: u32, key: u32, after: u32) -> Spot
         requires le_parent { (1 ≤ parent) × (parent ≤ self.now.used) }
         requires before { Before self.now.table.now self.now.used parent key after }
         ensures { Place self.now.table.now self.now.used parent key result.prev result.next }
     {
         let mut prev = after;
-        let mut next = self.behind(parent, after);
-        while next != 0 {
-            let mut c = next;
-            loop {
-                if key <= self.field(c, KEY) {
-                    return Spot { prev, next: c };
-                }
-                prev = c;
-                let follow = c as usize + 1;
-                next = self.field(c, NEXT);
-                if next as usize != follow {
-                    break;
-                }
-                c = follow as u32;
+        for c in self.children_behind(parent, after) {
+            if key <= self.field(c, KEY) {
+                return Spot { prev, next: c };
             }
+            prev = c;
         }
         Spot { prev, next: 0 }
     }

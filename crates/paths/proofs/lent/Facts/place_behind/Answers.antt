@@ -1,42 +1,34 @@
-use Rattle.std.proofs.Common.{refl, sym, ◌∙◌}
-use Rattle.facts.proofs.Chains.{key_le}
-use Rattle.paths.proofs.Walk.{at_less}
-use Rattle.paths.proofs.RunLaws.{run_next, run_end}
-use Rattle.paths.proofs.Spotting.{spotting_start, spotting_next}
+use Rattle.std.proofs.Common.{ap, ◌∙◌, arith}
+use Rattle.paths.specs.Walking.{chain_left}
+use Rattle.paths.proofs.Behind.{behind_start, behind_kid, behind_next, behind_here, behind_end}
 use Rattle.paths.proofs.lent.Facts.place_behind.Goals as goal
 
-pub loop-next-init : goal.loop-next-init
-loop-next-init c =
-    let e = c.behind-next.ensures in
+pub loop-c-init : goal.loop-c-init
+loop-c-init c =
     let p = c.requires.le_parent in
-    spotting_start _ _ _ _ c.args.self.now.shaped.linked p.0 p.1 _ _ c.requires.before e.0 e.1
+    let e = c.children_behind-c-items.ensures in
+    let same = ap chain_left c.into_iter-c-iterator.ensures.into_iter_gives in
+    behind_start _ _ _ _ c.args.self.now.shaped.linked p.0 p.1 _ _ c.requires.before (λ z. same ∙ e.0 z) (λ n. same ∙ e.1 n)
 
--- the keys left fall
-pub loop-next-smaller : goal.loop-next-smaller
-loop-next-smaller c =
+pub field-requires : goal.field-requires
+field-requires c =
     let p = c.requires.le_parent in
-    let I = c.loop-parent.invariant in
-    run_end _ _ _ _ I.1
-    (at_less _ _ _ c.args.self.now.shaped.linked p.0 p.1 _ _ _ _ I.0.at I.1.some (key_le _ _) c.field-next.ensures)
+    let K = behind_kid _ _ _ _ c.args.self.now.shaped.linked p.0 p.1 _ _ c.loop-c.invariant _ _ c.in-Some.ensures.steps in
+    (let a = K.above in omega arith, K.used, omega arith)
 
-pub loop-next-preserved : goal.loop-next-preserved
-loop-next-preserved c =
+pub returns-then-key-field : goal.returns-then-key-field
+returns-then-key-field c =
     let p = c.requires.le_parent in
-    let I = c.loop-parent.invariant in
-    spotting_next _ _ _ _ c.args.self.now.shaped.linked p.0 p.1 _ _ _ I.0 I.1.some (rw c.field.ensures at c.if-key-field.false) c.field-next.ensures
+    behind_here _ _ _ _ c.args.self.now.shaped.linked p.0 p.1 _ _ c.loop-c.invariant _ _ c.in-Some.ensures.steps
+    (rw c.field.ensures at c.if-key-field.true)
 
-pub loop-parent-smaller : goal.loop-parent-smaller
-loop-parent-smaller c =
+pub loop-c-preserved : goal.loop-c-preserved
+loop-c-preserved c =
     let p = c.requires.le_parent in
-    let I = c.loop-parent.invariant in
-    at_less _ _ _ c.args.self.now.shaped.linked p.0 p.1 _ _ _ _ I.0.at I.1.some (key_le _ _)
-    (sym c.if-next-follow.false ∙ c.field-next.ensures)
+    behind_next _ _ _ _ c.args.self.now.shaped.linked p.0 p.1 _ _ c.loop-c.invariant _ _ c.in-Some.ensures.steps
+    (rw c.field.ensures at c.if-key-field.false)
 
-pub loop-parent-preserved : goal.loop-parent-preserved
-loop-parent-preserved c =
+pub returns : goal.returns
+returns c =
     let p = c.requires.le_parent in
-    let I = c.loop-parent.invariant in (
-      spotting_next _ _ _ _ c.args.self.now.shaped.linked p.0 p.1 _ _ _ I.0 I.1.some (rw c.field.ensures at c.if-key-field.false)
-          (sym c.if-next-follow.false ∙ c.field-next.ensures),
-      run_next _ _ _ _ I.1 (loop-parent-smaller c) refl,
-    )
+    behind_end _ _ _ _ c.args.self.now.shaped.linked p.0 p.1 _ _ c.loop-c.invariant c.in-None.ensures.steps.0
