@@ -1,6 +1,6 @@
 -- Question 1's answer, test by test, and what it says.
 use Prim.Native.Nat.{ℕ, ◌/◌, ◌%◌, ◌≤◌, ◌<◌}
-use mathlib.Core.Path.{◌≡◌, refl, ap, subst}
+use mathlib.Core.Path.{◌≡◌, refl, sym, ap, subst}
 use mathlib.Core.Bool.{Bool, true, false, cond, and-false}
 use native.Mathlib.Decide.{ℕ_discrete, dec_lt}
 use native.Mathlib.Omega.{arith}
@@ -85,3 +85,14 @@ says n = go (ℕ_discrete (n % record_width) 0) (dec_lt (n / record_width) 1) (d
 -- question 1 taken: the table has that many records
 pub count_counted : (n N : ℕ) → record_count n ≡ Ok N → Counted n N
 count_counted n N e = subst (Says n) e (says n)
+
+-- and a table that has N records is taken with that number
+pub counted_count : (n N : ℕ) → Counted n N → record_count n ≡ Ok N
+counted_count n N C =
+    let e = C.is in let s = C.some in let m = C.most in
+    let q : n / record_width ≡ N = omega arith in
+    sym (rw q at (counts n (omega arith) (omega arith) (omega arith)))
+
+-- a table has one count of records
+pub count_once : (numbers N M : ℕ) → Counted numbers N → Counted numbers M → N ≡ M
+count_once numbers N M C D = let c = C.is in let d = D.is in omega arith

@@ -2,5 +2,6 @@
 pub mod Limbs
 pub mod Comparisons
 pub mod Powers
+pub mod Ranges
 pub mod Multipliers
 pub mod EightNumbers
