@@ -2,21 +2,20 @@
 use Prim.Native.Nat.{ℕ, suc, ◌+◌, ◌-◌, ◌≤◌, ◌<◌}
 use mathlib.Core.Path.{◌≡◌, refl, sym, ap, ◌∙◌}
 use mathlib.Core.Bool.{Bool, true, false, cond, ◌&&◌}
-use mathlib.Core.List.{List, ◌∷◌}
+use mathlib.Core.Logic.{inl, inr}
+use mathlib.Core.List.{List, [], ◌∷◌}
 use native.Mathlib.Numerals.{add-one}
 use native.Mathlib.Omega.{arith}
 use lib.Dec.{leb}
 use lib.ListN.{length}
 use borrow.Author.Tests.{eq-eqb, ne_eqb, le-leb, lt-leb, leb-true, leb-false}
 use Rattle.limits.specs.Limits.{depth_max}
-use Rattle.facts.specs.Table.{key_of, child_of, next_of}
+use Rattle.facts.specs.Table.{child_of}
+use Rattle.facts.specs.Links.{In}
 use Rattle.facts.specs.State.{Node, nodes, node_of, kids_in}
-use Rattle.facts.specs.Linked.{kids_of}
-use Rattle.facts.proofs.Chains.{top, key_le}
-use Rattle.facts.proofs.Encode.{length_nodes, kids_nodes}
+use Rattle.facts.proofs.Encode.{length_nodes}
 use Rattle.paths.specs.Shape.{Shaped}
-use Rattle.paths.proofs.Walk.{left as keys-left}
-use Rattle.paths.proofs.Tail.{Tail, More, tail_more, tail_none, tail_start, tail_kid, next_less}
+use Rattle.paths.proofs.Chaining.{left_kid, left_all, left_none}
 use Rattle.list.specs.Seen.{seen_ones, last_from, last_key, last_word}
 use Rattle.list.specs.Walk.{sum_of, all_of, spend_below, shallow_below}
 use Rattle.list.proofs.ChildrenLaws.{seen_yes, seen_no}
@@ -24,6 +23,7 @@ use Rattle.budget.specs.Below.{leaves, budget_below, Paid}
 use Rattle.std.specs.Prelude.{Some, None}
 use Rattle.std.specs.declared.option.Option.{Option}
 use Rattle.budget.proofs.LevelLaws.{spend_is, shallow_is}
+use Rattle.budget.proofs.KidLaws.{Child, kid_child}
 
 -- a first sum and a second one
 module _ (b : Bool) (sum left : ℕ) where
@@ -144,125 +144,110 @@ module _ (s : List Node) (r depth left : ℕ) (r1 : 1 ≤ r) (rl : r ≤ length 
       unfolding kids_leave
       own_last rest k = kids_first ∙ leaves_left true (suc (last_word s r)) left _ _ rest k
 
--- what is left for the children that are left at c gives what all of them leave, and the last key so far the last of
--- all
-pub record Paying (t : List ℕ) (u r depth left rest last c : ℕ) : Type 0 where
-  pub ns : List ℕ
-  pub tail : Tail t u r c ns
-  pub same : kids_leave (nodes t u) depth ns rest ≡ kids_leave (nodes t u) depth (kids_in (nodes t u) r) left
-  pub key : last_from (nodes t u) last (seen_ones (nodes t u) ns) ≡ last_key (nodes t u) r
+-- a walk of r's children has ns before it: what is left for them gives what all of them leave, and the last key so far
+-- the last of all
+pub record Paying (s : List Node) (r depth left rest last : ℕ) (ns : List ℕ) : Type 0 where
+  pub kids : (m : ℕ) → In m ns → In m (kids_in s r)
+  pub same : kids_leave s depth ns rest ≡ kids_leave s depth (kids_in s r) left
+  pub key : last_from s last (seen_ones s ns) ≡ last_key s r
   pub most : rest ≤ left
 
-module _ (t : List ℕ) {u r : ℕ} (r1 : 1 ≤ r) (ru : r ≤ u) where
-  in_state : r ≤ length (nodes t u)
-  in_state = let l = length_nodes t u in omega arith
+pub paying_start : (s : List Node) (r depth left : ℕ) (ns : List ℕ) → ns ≡ kids_in s r → Paying s r depth left left 0 ns
+paying_start s r depth left ns e = rw e (record { kids = λ m i. i; same = refl; key = refl; most = omega arith })
 
-module _ {t : List ℕ} {u r : ℕ} (r1 : 1 ≤ r) (ru : r ≤ u) where
-  pub paying_start : {depth left N c : ℕ} → Shaped t u N → c ≡ child_of t r → Paying t u r depth left left 0 c
-  paying_start {depth} {left} {N} {c} S e = record {
-    ns = kids_of t u r;
-    tail = tail_start t u r S.linked r1 ru c e;
-    same = ap (λ (ms : List ℕ). kids_leave (nodes t u) depth ms left) (sym (kids_nodes t u r));
-    key = ap (λ (ms : List ℕ). last_from (nodes t u) 0 (seen_ones (nodes t u) ms)) (sym (kids_nodes t u r));
-    most = omega arith;
-  }
-
-module _ {t : List ℕ} {u r depth left rest last c : ℕ} (I : Paying t u r depth left rest last c) where
-  pub paying_last : c ≡ 0 → last ≡ last_key (nodes t u) r
+module _ {s : List Node} {r depth left rest last : ℕ} {ms : List ℕ} (I : Paying s r depth left rest last ms) (e : ms ≡ []) where
+  pub paying_last : last ≡ last_key s r
   unfolding seen_ones last_from
-  paying_last z = rw (tail_none t u r c I.ns I.tail z) at I.key
+  paying_last = rw e at I.key
 
   -- all children are paid
-  all_paid : c ≡ 0 → kids_leave (nodes t u) depth (kids_in (nodes t u) r) left ≡ Some rest
+  all_paid : kids_leave s depth (kids_in s r) left ≡ Some rest
   unfolding kids_leave
-  all_paid z =
+  all_paid =
       let x : rest - 0 ≡ rest = omega arith in
-      sym (rw (tail_none t u r c I.ns I.tail z) at I.same) ∙ leaves_some 0 rest (omega arith) ∙ ap Some x
+      sym (rw e at I.same) ∙ leaves_some 0 rest (omega arith) ∙ ap Some x
 
-  module _ (r1 : 1 ≤ r) (ru : r ≤ u) (h : depth ≤ depth_max) (o : (node_of (nodes t u) r).seen ≡ 1) (z : c ≡ 0) where
+  module _ (r1 : 1 ≤ r) (rl : r ≤ length s) (h : depth ≤ depth_max) (o : (node_of s r).seen ≡ 1) {w : ℕ} (q : w ≡ last_word s r) where
     -- the record itself comes last
-    pub own_cost : budget_below (nodes t u) r depth left ≡ leaves true (suc (last_word (nodes t u) r)) rest
-    own_cost = own_last (nodes t u) r depth left r1 (in_state t r1 ru) o h rest (all_paid z)
+    own_cost : budget_below s r depth left ≡ leaves true (suc w) rest
+    own_cost = own_last s r depth left r1 rl o h rest all_paid ∙ ap (λ (y : ℕ). leaves true (suc y) rest) (sym q)
 
-    pub paying_done : {w x : ℕ} → w ≡ last_word (nodes t u) r → Some x ≡ leaves true (suc w) rest
-        → Paid (nodes t u) r depth left (Some (record { left = x; last_word = w }))
-    paying_done {w} {x} q e =
-        let is : budget_below (nodes t u) r depth left ≡ Some x = own_cost ∙ ap (λ (y : ℕ). leaves true (suc y) rest) (sym q) ∙ sym e in
-        (is, (let a = leaves_most true (suc w) rest x (sym e) in let b = I.most in omega arith), q)
+    pub paying_done : {x : ℕ} → Some x ≡ leaves true (suc w) rest → Paid s r depth left (Some (record { left = x; last_word = w }))
+    paying_done {x} f = (own_cost ∙ sym f, (let a = leaves_most true (suc w) rest x (sym f) in let b = I.most in omega arith), q)
 
-    pub paying_none : {w : ℕ} → w ≡ last_word (nodes t u) r → None ≡ leaves true (suc w) rest → Paid (nodes t u) r depth left None
-    paying_none {w} q e = own_cost ∙ ap (λ (y : ℕ). leaves true (suc y) rest) (sym q) ∙ sym e
+    pub paying_none : None ≡ leaves true (suc w) rest → Paid s r depth left None
+    paying_none f = own_cost ∙ sym f
 
-module _ {t : List ℕ} {u r depth left rest last c : ℕ} (I : Paying t u r depth left rest last c) (n : c ≡ 0 → ⊥) where
-  split : More t u r c I.ns
-  split = tail_more t u r c I.ns I.tail n
+-- c is the next child, and stands one level deeper
+module _ {s : List Node} {r depth left rest last : ℕ} {ms : List ℕ} (I : Paying s r depth left rest last ms) {c : ℕ} {ns : List ℕ} (is : ms ≡ c ∷ ns) where
+  paying_kid : In c (kids_in s r)
+  paying_kid = I.kids c (rw is (inl refl))
 
-  pub child_above : r < c
-  child_above = (tail_kid t u r c I.ns I.tail n).above
+  child : Child s r c
+  child = kid_child s r c paying_kid
 
-  pub child_some : 1 ≤ c
-  child_some = let a = child_above in omega arith
+  child_some : 1 ≤ c
+  child_some = let a = child.above in omega arith
 
-  pub child_used : c ≤ u
-  child_used = (tail_kid t u r c I.ns I.tail n).used
+  whole : kids_leave s depth (c ∷ ns) rest ≡ kids_leave s depth (kids_in s r) left
+  whole = ap (λ (ls : List ℕ). kids_leave s depth ls rest) (sym is) ∙ I.same
 
-  -- the next child has a higher key
-  pub child_less : {N c' : ℕ} → Shaped t u N → 1 ≤ r → r ≤ u → c' ≡ next_of t c
-      → keys-left (top t) c' (key_of t c') < keys-left (top t) c (key_of t c)
-  child_less {N} {c'} S r1 ru e = next_less t u r (top t) c c' S.linked r1 ru (tail_kid t u r c I.ns I.tail n) (key_le t c) e
-
-  whole : kids_leave (nodes t u) depth (c ∷ split.rest) rest ≡ kids_leave (nodes t u) depth (kids_in (nodes t u) r) left
-  whole = ap (λ (ms : List ℕ). kids_leave (nodes t u) depth ms rest) (sym split.is) ∙ I.same
-
-  after : (rest' last' c' : ℕ) → budget_below (nodes t u) c (depth + 1) rest ≡ Some rest' → rest' ≤ rest → c' ≡ next_of t c
-      → last_from (nodes t u) last' (seen_ones (nodes t u) split.rest) ≡ last_key (nodes t u) r → Paying t u r depth left rest' last' c'
-  after rest' last' c' b m y k = record {
-    ns = split.rest;
-    tail = rw y split.tail;
-    same = sym (first_left (nodes t u) depth c split.rest rest rest' b) ∙ whole;
+  after : (rest' last' : ℕ) → budget_below s c (depth + 1) rest ≡ Some rest' → rest' ≤ rest
+      → last_from s last' (seen_ones s ns) ≡ last_key s r → Paying s r depth left rest' last' ns
+  after rest' last' b m k = record {
+    kids = λ m i. I.kids m (rw is (inr i));
+    same = sym (first_left s depth c ns rest rest' b) ∙ whole;
     key = k;
     most = let m' = I.most in omega arith;
   }
 
   -- an unseen child costs nothing
-  pub paying_unseen : ((node_of (nodes t u) c).seen ≡ 1 → ⊥) → {rest' last' c' : ℕ} → rest' ≡ rest → last' ≡ last → c' ≡ next_of t c
-      → Paying t u r depth left rest' last' c'
-  paying_unseen o {rest'} {last'} {c'} p q y =
-      let z : seen_ones (nodes t u) I.ns ≡ seen_ones (nodes t u) split.rest =
-      ap (seen_ones (nodes t u)) split.is ∙ seen_no (nodes t u) c split.rest o in
-      after rest' last' c' (unseen_leaves (nodes t u) c (depth + 1) rest child_some (in_state t child_some child_used) o ∙ ap Some (sym p)) (omega arith) y
-      (ap (λ (k : ℕ). last_from (nodes t u) k (seen_ones (nodes t u) split.rest)) q ∙ (rw z at I.key))
+  pub paying_unseen : ((node_of s c).seen ≡ 1 → ⊥) → Paying s r depth left rest last ns
+  paying_unseen o =
+      let z : seen_ones s ms ≡ seen_ones s ns = ap (seen_ones s) is ∙ seen_no s c ns o in
+      after rest last (unseen_leaves s c (depth + 1) rest child_some child.within o) (omega arith) (rw z at I.key)
 
-  module _ (o : (node_of (nodes t u) c).seen ≡ 1) where
+  module _ (o : (node_of s c).seen ≡ 1) where
     -- a seen one, too deep
-    pub cost_deep : depth ≡ depth_max → budget_below (nodes t u) c (depth + 1) rest ≡ None
-    cost_deep d = deep_leaves (nodes t u) c (depth + 1) rest child_some (in_state t child_some child_used) o (omega arith)
+    pub cost_deep : depth ≡ depth_max → budget_below s c (depth + 1) rest ≡ None
+    cost_deep d = deep_leaves s c (depth + 1) rest child_some child.within o (omega arith)
 
     -- with no child of its own
-    module _ {N w : ℕ} (S : Shaped t u N) (d : depth ≤ depth_max) (e : depth ≡ depth_max → ⊥) (f : 0 ≡ child_of t c) (q : w ≡ last_word (nodes t u) c) where
-      cost_leaf : budget_below (nodes t u) c (depth + 1) rest ≡ leaves true (suc w) rest
-      cost_leaf =
-          own_cost (paying_start child_some child_used {depth = depth + 1} {left = rest} S f) child_some child_used (omega arith) o refl
-          ∙ ap (λ (y : ℕ). leaves true (suc y) rest) (sym q)
+    module _ (d : depth ≤ depth_max) (e : depth ≡ depth_max → ⊥) (f : kids_in s c ≡ []) {w : ℕ} (q : w ≡ last_word s c) where
+      cost_leaf : budget_below s c (depth + 1) rest ≡ leaves true (suc w) rest
+      cost_leaf = own_cost (paying_start s c (depth + 1) rest [] (sym f)) refl child_some child.within (omega arith) o q
 
-      pub leaf_left : {x : ℕ} → Some x ≡ leaves true (suc w) rest → (budget_below (nodes t u) c (depth + 1) rest ≡ Some x) × (x ≤ rest)
+      pub leaf_left : {x : ℕ} → Some x ≡ leaves true (suc w) rest → (budget_below s c (depth + 1) rest ≡ Some x) × (x ≤ rest)
       leaf_left {x} h = (cost_leaf ∙ sym h, leaves_most true (suc w) rest x (sym h))
 
-      pub leaf_over : None ≡ leaves true (suc w) rest → budget_below (nodes t u) c (depth + 1) rest ≡ None
+      pub leaf_over : None ≡ leaves true (suc w) rest → budget_below s c (depth + 1) rest ≡ None
       leaf_over h = cost_leaf ∙ sym h
 
     -- it is over, and so is the record
-    pub paying_over : 1 ≤ r → r ≤ u → depth ≤ depth_max → (node_of (nodes t u) r).seen ≡ 1 → budget_below (nodes t u) c (depth + 1) rest ≡ None
-        → Paid (nodes t u) r depth left None
-    paying_over r1 ru h s x =
-        kids_over (nodes t u) r depth left r1 (in_state t r1 ru) s h (sym whole ∙ first_over (nodes t u) depth c split.rest rest x)
+    pub paying_over : 1 ≤ r → depth ≤ depth_max → (node_of s r).seen ≡ 1 → budget_below s c (depth + 1) rest ≡ None → Paid s r depth left None
+    paying_over r1 h z x =
+        let a = child.above in let b = child.within in
+        kids_over s r depth left r1 (omega arith) z h (sym whole ∙ first_over s depth c ns rest x)
 
-    pub paying_seen : {x : ℕ} → (budget_below (nodes t u) c (depth + 1) rest ≡ Some x) × (x ≤ rest) → {rest' last' c' : ℕ} → rest' ≡ x
-        → last' ≡ (node_of (nodes t u) c).key → c' ≡ next_of t c → Paying t u r depth left rest' last' c'
+    pub paying_seen : {x : ℕ} → (budget_below s c (depth + 1) rest ≡ Some x) × (x ≤ rest) → {rest' last' : ℕ} → rest' ≡ x → last' ≡ (node_of s c).key
+        → Paying s r depth left rest' last' ns
     unfolding last_from
-    paying_seen {x} C {rest'} {last'} {c'} p q y =
-        let m = C.1 in
-        let z : seen_ones (nodes t u) I.ns ≡ c ∷ seen_ones (nodes t u) split.rest =
-        ap (seen_ones (nodes t u)) split.is ∙ seen_yes (nodes t u) c split.rest o in
-        after rest' last' c' (C.0 ∙ ap Some (sym p)) (omega arith) y
-        (ap (λ (k : ℕ). last_from (nodes t u) k (seen_ones (nodes t u) split.rest)) q ∙ (rw z at I.key))
+    paying_seen {x} C p q =
+        let z : seen_ones s ms ≡ c ∷ seen_ones s ns = ap (seen_ones s) is ∙ seen_yes s c ns o in
+        rw (p, q) (after x (node_of s c).key C.0 C.1 (rw z at I.key))
+
+-- numbers of a table's records
+module _ (t : List ℕ) (u : ℕ) where
+  pub in_state : {r : ℕ} → r ≤ u → r ≤ length (nodes t u)
+  in_state h = let l = length_nodes t u in omega arith
+
+  module _ {r depth left rest last : ℕ} {ms : List ℕ} (I : Paying (nodes t u) r depth left rest last ms) {c : ℕ} {ns : List ℕ} (is : ms ≡ c ∷ ns) where
+    pub child_above : r < c
+    child_above = (left_kid t u r c (paying_kid I is)).above
+
+    pub child_range : (1 ≤ c) × (c ≤ u)
+    child_range = (let a = child_above in omega arith, (left_kid t u r c (paying_kid I is)).used)
+
+    -- with an empty chain it has no children
+    pub childless : {N : ℕ} → Shaped t u N → {d : ℕ} → d ≡ child_of t c → d ≡ 0 → kids_in (nodes t u) c ≡ []
+    childless S {d} e z = sym (left_all t u c S.linked child_range.0 child_range.1 d e) ∙ left_none t u c S.linked child_range.0 child_range.1 d z

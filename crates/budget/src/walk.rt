@@ -25,9 +25,7 @@ fn own_left(left: u32, last: u32) -> Option<u32>
 
 // What is left after a seen record, which stands at this depth, and all below it, unless that is too deep or costs too
 // much. The walk calls itself for each seen child; one with no child of its own costs its last word and one, which is
-// taken off at once. A child's number is higher than its parent's, so that fewer numbers are left above it. A child
-// often stands in the chain right behind the one before it: where it does, the walk counts on instead of waiting for
-// the number that it loads.
+// taken off at once. A child's number is higher than its parent's, so that fewer numbers are left above it.
 fn left_below(facts: &Facts, r: u32, depth: u32, left: u32) -> Option<Below>
     requires le_r { (1 ≤ r) × (r ≤ facts.now.used) × (depth ≤ depth_max) }
     requires seen { (node_of (facts_of facts.now) r).seen ≡ 1 }
@@ -35,27 +33,17 @@ fn left_below(facts: &Facts, r: u32, depth: u32, left: u32) -> Option<Below>
 {
     let mut rest = left;
     let mut last_key: u32 = 0;
-    let mut next = facts.child(r);
-    while next != 0 {
-        let mut c = next;
-        loop {
-            if facts.is_seen(c) {
-                if depth == DEPTH_MAX {
-                    return None;
-                }
-                rest = if facts.child(c) == 0 {
-                    own_left(rest, last_word(facts, c, 0))?
-                } else {
-                    left_below(facts, c, depth + 1, rest)?.left
-                };
-                last_key = facts.key(c);
+    for c in facts.children(r) {
+        if facts.is_seen(c) {
+            if depth == DEPTH_MAX {
+                return None;
             }
-            let follow = c as usize + 1;
-            next = facts.next(c);
-            if next as usize != follow {
-                break;
-            }
-            c = follow as u32;
+            rest = if facts.child(c) == 0 {
+                own_left(rest, last_word(facts, c, 0))?
+            } else {
+                left_below(facts, c, depth + 1, rest)?.left
+            };
+            last_key = facts.key(c);
         }
     }
     let last_word = last_word(facts, r, last_key);
