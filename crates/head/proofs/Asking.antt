@@ -56,8 +56,5 @@ module _ (h : Held) (n : ℕ) (A : Admits h n) where
 
 -- what the code's answer to 1 and 2 says, by its case
 module _ (h : Held) (a : Result ℕ Refusal) (is : AdmittedBy h a) where
-  pub records_so : (n : ℕ) → a ≡ Ok n → Admits h n
-  records_so n e = subst (AdmittedBy h) e is
-
   pub refused_so : (ts : List Test) (r : Refusal) → a ≡ Err r → FirstNo (after_sound h ts) (number_of r)
   refused_so ts r e = refused_asked h ts r (subst (AdmittedBy h) e is)

@@ -58,10 +58,6 @@ module _ (s : List Node) (r count : ℕ) where
   pub same_set_array : SamePaths s (set_array s r count)
   same_set_array = alike_same s (set_array s r count) alike_set_array
 
-  -- how many paths are added, for question 8 (`length_fill` says it of the fill)
-  pub length_set_dynamic : length (set_dynamic s r count) ≡ length s
-  length_set_dynamic = same_set_dynamic.size
-
 -- the fill moves no path
 pub paths_fill : (s : List Node) (words : ℕ) → take (length s) (paths (fill s words)) ≡ paths s
 unfolding fill

@@ -74,10 +74,6 @@ lacking_next s words absent i m k I h e q o = record {
   same = let a = I.same in let b = missing_next s i in let w = ap (missing s 1) e in omega arith;
 }
 
-pub lacking_done : (s : List Node) (words absent i : ℕ) → Lacking s words absent i → words ≤ i → (absent ≡ fill_missing s words) × (absent ≤ words)
-lacking_done s words absent i I h =
-    let e : i ≡ words = (let l = I.low in omega arith) in (I.same ∙ ap (fill_missing s) e, let f = I.few in omega arith)
-
 -- before word i of `fill`: the state is s with the words before it
 pub record Filling (s : List Node) (words : ℕ) (t : List ℕ) (used i : ℕ) : Type 0 where
   pub low : i ≤ words

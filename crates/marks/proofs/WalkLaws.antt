@@ -60,10 +60,6 @@ module _ (t : List ℕ) (u k : ℕ) (k1 : 1 ≤ k) (ku : k ≤ u) where
   parent_kept t' e =
       sym (ap (λ (n : Node). n.parent) (nodes_get t' u k k1 ku)) ∙ either_parent (node_of (nodes t u) k) (node_of (nodes t' u) k) e ∙ parent_at
 
-pub clearing_start : (t : List ℕ) (used N p c : ℕ) → Shaped t used N → 1 ≤ p → p ≤ used → c ≡ child_of t p → Clearing t used N p t c
-clearing_start t used N p c S p1 pu e =
-    record { begun = S; shaped = S; low = 0; first = rw e (S.linked.child p p1 pu); partly = partly_start (nodes t used) p }
-
 module _ (t₁ : List ℕ) (used N p : ℕ) (t : List ℕ) (c : ℕ) (C : Clearing t₁ used N p t c) (p1 : 1 ≤ p) where
   kept : (k : ℕ) → 1 ≤ k → k ≤ used → Either (node_of (nodes t₁ used) k) (node_of (nodes t used) k)
   kept k k1 ku = C.partly.either k k1 (let l = length_nodes t₁ used in omega arith)

@@ -15,10 +15,6 @@ same_then a b c S T = record { records = T.records ∙ S.records; reference = T.
 pub stays : (a : Facts) (s : List Node) → facts_of a ≡ s → Becomes a a s
 stays a s e = record { state = e; used = refl; same = same_stays a }
 
--- the same facts by another definition
-pub becomes_so : (a b : Facts) (s s' : List Node) → Becomes a b s → s ≡ s' → Becomes a b s'
-becomes_so a b s s' B e = record { state = B.state ∙ e; used = B.used; same = B.same }
-
 pub grows_so : (a b : Facts) (s : List Node) → Becomes a b s → Grows a b s
 grows_so a b s B = record { state = B.state; used = rw B.used (omega arith); same = B.same }
 

@@ -1,6 +1,5 @@
 pub mod Frame
 pub mod Walk
-pub mod RunLaws
 pub mod Tail
 pub mod Chaining
 pub mod Climbing

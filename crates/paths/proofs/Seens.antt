@@ -1,9 +1,7 @@
 -- Making a path seen, one record a turn.
 use Rattle.std.proofs.Common.{◌≡◌, ℕ, zero, suc, ◌<◌, ◌≤◌, List, sym, refl, ap, ◌∙◌, ⊎_elim, eq-or-lt_of_le, arith, eq-eqb, ne_eqb}
-use Rattle.limits.specs.Limits.{record_width}
 use Rattle.limits.specs.Fields as field
 use Rattle.facts.specs.Table.{parent_of}
-use Rattle.facts.specs.Access.{Has}
 use Rattle.facts.specs.State.{Node, nodes, node_of}
 use Rattle.facts.proofs.Encode.{nodes_get}
 use Rattle.paths.specs.Shape.{Shaped}
@@ -38,10 +36,6 @@ seen_end : (m : ℕ) (s : List Node) (c : ℕ) → c ≡ 0 → seen_up m s c ≡
 unfolding seen_up
 seen_end zero s c z = refl
 seen_end (suc m) s c z = rw (eq-eqb c 0 z) refl
-
-pub climb_has : (s : List Node) (r : ℕ) (t : List ℕ) (used N c f : ℕ) → Climb s r t used N c → (c ≡ 0 → ⊥) → f < record_width → Has t c f
-climb_has s r t used N c f C n h =
-    let w = C.shaped.linked.whole in let l = C.low in record { from = omega arith; within = omega arith; field = h }
 
 pub climb_less : (s : List Node) (r : ℕ) (t : List ℕ) (used N c c' : ℕ) → Climb s r t used N c → (c ≡ 0 → ⊥) → c' ≡ parent_of t c → c' < c
 climb_less s r t used N c c' C n e = let h = parent_low t used N c C.shaped (omega arith) C.low in omega arith

@@ -1,7 +1,7 @@
 -- The walk that looks for a key's place.
 use Rattle.std.proofs.Common.{◌≡◌, ℕ, ◌+◌, ◌<◌, ◌≤◌, List, refl, ⊎_elim, arith}
 use native.Mathlib.Decide.{ℕ_discrete}
-use Rattle.facts.specs.Table.{key_of, parent_of, child_of, next_of}
+use Rattle.facts.specs.Table.{key_of, child_of, next_of}
 use Rattle.facts.specs.Links.{Kid}
 use Rattle.facts.specs.Linked.{First, Linked}
 use Rattle.facts.proofs.Laws.{lt_or_ge}
@@ -69,10 +69,6 @@ module _ (t : List ℕ) (u p k prev c : ℕ) (Q : Place t u p k prev c) where
     kid = λ y. absurd (y refl);
     key = λ y. absurd (y refl);
   }
-
--- a record with that parent and a lower key
-pub before_some : (t : List ℕ) (u p k r : ℕ) → Linked t u → 1 < r → r ≤ u → parent_of t r ≡ p → key_of t r < k → Before t u p k r
-before_some t u p k r L h l e b = record { kid = λ _. record { above = rw (← e) (L.up r h l).1; used = l; parent = e }; below = λ _. b }
 
 pub before_none : (t : List ℕ) (u p k : ℕ) → Before t u p k 0
 before_none t u p k = record { kid = λ n. absurd (n refl); below = λ n. absurd (n refl) }

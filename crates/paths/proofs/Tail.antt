@@ -1,18 +1,11 @@
 -- A walk over the children of p: what is left of the list of them, and what is read on the way.
-use Rattle.std.proofs.Common.{◌≡◌, ℕ, ◌<◌, ◌≤◌, List, [], ◌∷◌, sym, refl, ap, ◌∙◌, inl, inr, arith}
-use Rattle.limits.specs.Limits.{record_width}
+use Rattle.std.proofs.Common.{◌≡◌, ℕ, ◌<◌, ◌≤◌, List, [], ◌∷◌, sym, refl, ap, ◌∙◌, inr, arith}
 use Rattle.facts.specs.Table.{key_of, child_of, next_of}
-use Rattle.facts.specs.Access.{Has}
 use Rattle.facts.specs.Links.{Kid, In, Seg}
 use Rattle.facts.specs.Linked.{Linked}
 use Rattle.facts.specs.Linked.{kids_of}
 use Rattle.facts.proofs.Kids.{chain_kids, kids_in_lem}
-use Rattle.paths.specs.Shape.{Shaped}
 use Rattle.paths.proofs.Walk.{At, left, at_less}
-
--- a used record can be read
-pub has_field : (t : List ℕ) (used N r f : ℕ) → Shaped t used N → 1 ≤ r → r ≤ used → f < record_width → Has t r f
-has_field t used N r f S r1 ru h = let w = S.linked.whole in record { from = r1; within = omega arith; field = h }
 
 -- the next child of p has a higher key, so that less is left
 pub next_less : (t : List ℕ) (u p m c c' : ℕ) → Linked t u → 1 ≤ p → p ≤ u → Kid t u p c → key_of t c ≤ m → c' ≡ next_of t c
@@ -51,6 +44,3 @@ tail_none t u p c (m ∷ ns) T z = absurd (T.seg.1 (sym T.seg.0 ∙ z))
 
 pub tail_start : (t : List ℕ) (u p : ℕ) → Linked t u → 1 ≤ p → p ≤ u → (c : ℕ) → c ≡ child_of t p → Tail t u p c (kids_of t u p)
 tail_start t u p L p1 pu c e = record { seg = rw e (chain_kids t u p L p1 pu); kids = λ m i. kids_in_lem t p u m i }
-
-pub tail_kid : (t : List ℕ) (u p c : ℕ) (ns : List ℕ) → Tail t u p c ns → (c ≡ 0 → ⊥) → Kid t u p c
-tail_kid t u p c ns T n = let M = tail_more t u p c ns T n in T.kids c (rw M.is (inl refl))

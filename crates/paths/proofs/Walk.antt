@@ -41,9 +41,6 @@ module _ (t : List ℕ) (u p : ℕ) (L : Linked t u) (p1 : 1 ≤ p) (pu : p ≤ 
   pub at_start : (k c : ℕ) → c ≡ child_of t p → At t u p k c
   at_start k c e = record { low = 0; below = omega arith; first = rw e (L.child p p1 pu) }
 
-  pub at_has : (k c f : ℕ) → At t u p k c → (c ≡ 0 → ⊥) → f < record_width → Has t c f
-  at_has k c f a n h = kid_has t u p c f L (a.first.kid n) h
-
   -- the keys rise, so that less is left
   pub at_less : (m k c c' : ℕ) → At t u p k c → (c ≡ 0 → ⊥) → key_of t c ≤ m → c' ≡ next_of t c → left m c' (key_of t c') < left m c (key_of t c)
   at_less m k c c' a n lt e = rw (left_some m c (key_of t c) n) (go c' refl)
