@@ -1,5 +1,5 @@
-// The type walk: `to_alloy_type`, which writes the codes of the list to a slice. It calls itself for each child, and
-// walks a chain once beside the words.
+// The type walk: `to_alloy_type`, which writes the codes of the list to a slice. It goes along the children once, and
+// calls itself for those that have words of their own.
 #![tactic(auto)]
 
 mod ahead;
@@ -23,12 +23,5 @@ pub struct Plan {
 pub struct Rest {
     pub start: u32,
     pub words: u32,
-    pub to: usize,
-}
-
-// A run of words that are done: how many, and the index behind their codes.
-#[derive(Clone, Copy)]
-pub struct Run {
-    pub done: u32,
     pub to: usize,
 }

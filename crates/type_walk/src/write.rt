@@ -69,11 +69,10 @@ fn write_ahead(facts: &Facts, c: u32, types: &mut [u16], at: usize) -> Rest
     }
 }
 
-// Stores the codes of so many words of a fact from one on, and answers the index behind them: words before the next
-// child, which have uint256, then children as they stand at their words, and so on. For a child it stores what stands
-// ahead, and calls itself for the words that follow. Where a child's number follows the one before, the walk counts on
-// instead of waiting for the number that it loads. It is higher than the parent's, so that fewer numbers are left above
-// it.
+// Stores the codes of so many words of a fact from one on, and answers the index behind them. A child at a word's key
+// has that word's codes: what stands ahead is stored, and a call of its own stores the words that follow. The words
+// before it that have no child, and those behind the last one, have uint256. A child's number is higher than the
+// parent's, so that fewer numbers are left above it.
 pub fn write_words(
     facts: &Facts,
     r: u32,
@@ -90,38 +89,25 @@ pub fn write_words(
         (all_codes (word_types (facts_of facts.now) r start words)) }
     ensures value { result ≡ at + length (all_codes (word_types (facts_of facts.now) r start words)) }
 {
+    let end = start + words;
+    let mut next = start;
     let mut to = at;
-    let mut c = facts.child(r);
-    let mut i: u32 = 0;
-    while i < words {
-        let gap = write_gap(facts, r, start + i, words - i, c, types, to);
-        i += gap.done;
-        to = gap.to;
-        loop {
-            if i == words {
-                return to;
-            }
-            let key = facts.key(c);
-            let word = WORD_BYTES * (start + i);
-            if word < key {
-                break;
-            }
-            if key == word {
-                let ahead = write_ahead(facts, c, types, to);
-                to = ahead.to;
-                if ahead.words != 0 {
-                    to = write_words(facts, c, ahead.start, ahead.words, types, to);
-                }
-                i += 1;
-            }
-            let follow = c as usize + 1;
-            let behind = facts.next(c);
-            if behind as usize != follow {
-                c = behind;
-                break;
-            }
-            c = follow as u32;
+    for c in facts.children(r) {
+        let key = facts.key(c);
+        let word = key / WORD_BYTES;
+        if end <= word {
+            break;
         }
+        if (word < next) | (key % WORD_BYTES != 0) {
+            continue;
+        }
+        to = write_gap(types, to, word - next);
+        let ahead = write_ahead(facts, c, types, to);
+        to = ahead.to;
+        if ahead.words != 0 {
+            to = write_words(facts, c, ahead.start, ahead.words, types, to);
+        }
+        next = word + 1;
     }
-    to
+    write_gap(types, to, end - next)
 }

@@ -1,149 +1,81 @@
-use Rattle.std.proofs.Common.{arith, refl, sym, ◌∙◌, ◌≤◌}
-use Rattle.type_walk.proofs.WriteLaws.{words_small, writing_join, writing_done, ran_next, turn_of, turn_kid, turn_range, turn_key, turn_small}
-use Rattle.type_walk.proofs.WriteLaws.{turn_falls, turn_passed, turn_fits, turn_inner, turn_done, led_none}
+use Rattle.std.proofs.Common.{arith, ap, ◌∙◌}
+use Rattle.paths.specs.Walking.{chain_left}
+use Rattle.paths.specs.Lent.{facts_of}
+use Rattle.type_walk.proofs.WriteLaws.{words_codes, writing_start, writing_kid, writing_passed, before_fits, writing_before}
+use Rattle.type_walk.proofs.WriteLaws.{kid_fits, inner_call, writing_next, led_none, above_none, above_kid, last_fits, writing_last}
 use Rattle.type_walk.proofs.write.+write_words.Goals as goal
-use Rattle.type_walk.proofs.write.+write_words.Goals.{then-key-word, then-ahead-ne0, else-ahead-ne0, else-key-word}
+use Rattle.type_walk.proofs.write.+write_words.Goals.{then-ahead-ne0, else-ahead-ne0, in-None, in-Some+then-end-word}
 
-pub write_gap-gap-requires-clause-le_r : goal.write_gap-gap-requires-clause-le_r
-write_gap-gap-requires-clause-le_r t c =
-    let h = words_small _ _ _ _ _ _ _ _ _ _ _ c.loop-i.invariant c.requires.le_r.2 c.requires.words_bound in
-    let m = c.loop-i.invariant.most in
-    (c.requires.le_r.0, c.requires.le_r.1, omega arith)
-
-pub returns-then-i-words-clause-types_after : goal.returns-then-i-words-clause-types_after
-returns-then-i-words-clause-types_after t c =
-    let W = c.loop-i-2.invariant.adds _ _ (writing_join _ _ _ _ _ _ _ _ _ _ _ _ _ _ _ c.loop-i.invariant c.write_gap-gap.ensures.writing) in
-    let e = c.if-i-words.true in
-    (writing_done _ _ _ _ _ _ _ _ _ _ _ W (omega arith)).0
-
-pub returns-then-i-words-clause-value : goal.returns-then-i-words-clause-value
-returns-then-i-words-clause-value t c =
-    let W = c.loop-i-2.invariant.adds _ _ (writing_join _ _ _ _ _ _ _ _ _ _ _ _ _ _ _ c.loop-i.invariant c.write_gap-gap.ensures.writing) in
-    let e = c.if-i-words.true in
-    (writing_done _ _ _ _ _ _ _ _ _ _ _ W (omega arith)).1
-
-pub overflow_mul-word : goal.overflow_mul-word
-overflow_mul-word t c =
-    let W = c.loop-i-2.invariant.adds _ _ (writing_join _ _ _ _ _ _ _ _ _ _ _ _ _ _ _ c.loop-i.invariant c.write_gap-gap.ensures.writing) in
-    let T = turn_of c.requires.sound c.requires.le_r.0 c.requires.le_r.1 W c.if-i-words.false c.loop-i-2.invariant.some in
-    let a = turn_small T c.requires.le_r.2 c.requires.words_bound in
+pub overflow_add-end : goal.overflow_add-end
+overflow_add-end t c =
+    let h = words_codes (facts_of c.args.facts.now) c.args.r c.args.start c.args.words in
+    let l = c.requires.words_bound in
+    let s = c.requires.le_r.2 in
     omega arith
 
-pub loop-i-smaller-then-word-key : goal.loop-i-smaller-then-word-key
-loop-i-smaller-then-word-key t c =
-    let W = c.loop-i-2.invariant.adds _ _ (writing_join _ _ _ _ _ _ _ _ _ _ _ _ _ _ _ c.loop-i.invariant c.write_gap-gap.ensures.writing) in
-    let T = turn_of c.requires.sound c.requires.le_r.0 c.requires.le_r.1 W c.if-i-words.false c.loop-i-2.invariant.some in
-    let p = c.loop-i-2.invariant.passed T.less (let k = turn_key T c.key-key.ensures in let h = c.if-word-key.true in omega arith) in
-    let n = c.loop-i-2.invariant.since in
-    let l = T.less in
-    omega arith
+pub loop-c-init : goal.loop-c-init
+loop-c-init t c =
+    writing_start _ _ _ _ _ _ _ _ _ (record {
+      sound = c.requires.sound;
+      from = c.requires.le_r.0;
+      used = c.requires.le_r.1;
+      room = c.requires.words_bound;
+      long = c.requires.types_room_in_bounds;
+    })
+    (ap chain_left c.into_iter-c-iterator.ensures.into_iter_gives ∙ c.children-c-items.ensures)
 
-pub loop-i-preserved-then-word-key : goal.loop-i-preserved-then-word-key
-loop-i-preserved-then-word-key t c =
-    let W = c.loop-i-2.invariant.adds _ _ (writing_join _ _ _ _ _ _ _ _ _ _ _ _ _ _ _ c.loop-i.invariant c.write_gap-gap.ensures.writing) in
-    W
+pub loop-c-preserved-then-word-next : goal.loop-c-preserved-then-word-next
+loop-c-preserved-then-word-next t c = writing_passed c.loop-c.invariant c.in-Some.ensures.steps c.key-key.ensures c.if-word-next.true
+
+pub write_gap-to-requires : goal.write_gap-to-requires
+write_gap-to-requires t c = before_fits c.loop-c.invariant c.in-Some.ensures.steps c.key-key.ensures c.if-end-word.false c.if-word-next.false
 
 pub write_ahead-ahead-requires-clause-c_bound : goal.write_ahead-ahead-requires-clause-c_bound
 write_ahead-ahead-requires-clause-c_bound t c =
-    let W = c.loop-i-2.invariant.adds _ _ (writing_join _ _ _ _ _ _ _ _ _ _ _ _ _ _ _ c.loop-i.invariant c.write_gap-gap.ensures.writing) in
-    let T = turn_of c.requires.sound c.requires.le_r.0 c.requires.le_r.1 W c.if-i-words.false c.loop-i-2.invariant.some in
-    turn_fits T (turn_key T c.key-key.ensures) c.if-key-word.true c.requires.words_bound
+    let T = writing_before c.loop-c.invariant c.in-Some.ensures.steps c.key-key.ensures c.if-end-word.false c.if-word-next.false
+    c.write_gap-to.ensures.0 c.write_gap-to.ensures.1 in
+    kid_fits T.0 c.in-Some.ensures.steps c.if-end-word.false T.1
 
 pub write_words-to-requires : goal.write_words-to-requires
 write_words-to-requires t c =
-    let W = c.loop-i-2.invariant.adds _ _ (writing_join _ _ _ _ _ _ _ _ _ _ _ _ _ _ _ c.loop-i.invariant c.write_gap-gap.ensures.writing) in
-    let T = turn_of c.requires.sound c.requires.le_r.0 c.requires.le_r.1 W c.if-i-words.false c.loop-i-2.invariant.some in
-    let K = turn_range T in
-    let L = c.write_ahead-ahead.ensures in
-    let z = W.size in
-    let y = L.size in
-    let l = c.requires.types_room_in_bounds in
+    let T = writing_before c.loop-c.invariant c.in-Some.ensures.steps c.key-key.ensures c.if-end-word.false c.if-word-next.false
+    c.write_gap-to.ensures.0 c.write_gap-to.ensures.1 in
+    let C = inner_call T.0 c.in-Some.ensures.steps c.if-end-word.false T.1 c.write_ahead-ahead.ensures in
     let g = c.decreases in
-    let k = (turn_kid T).above in (
-      omega arith,
-      (
-        c.requires.sound,
-        (
-          (K.0, K.1, L.start),
-          (turn_inner T (turn_key T c.key-key.ensures) c.if-key-word.true L c.requires.words_bound, omega arith),
-        ),
-      ),
-    )
+    let a = (writing_kid T.0 c.in-Some.ensures.steps).above in
+    let b = C.used in
+    (omega arith, (C.sound, ((C.from, C.used, c.write_ahead-ahead.ensures.start), (C.room, C.long))))
 
-pub next-behind-requires : goal.next-behind-requires
-next-behind-requires t c =
-    let W = c.loop-i-2.invariant.adds _ _ (writing_join _ _ _ _ _ _ _ _ _ _ _ _ _ _ _ c.loop-i.invariant c.write_gap-gap.ensures.writing) in
-    let T = turn_of c.requires.sound c.requires.le_r.0 c.requires.le_r.1 W c.if-i-words.false c.loop-i-2.invariant.some in
-    turn_range T
-
-pub loop-i-smaller : goal.loop-i-smaller
-loop-i-smaller t c =
-    let W = c.loop-i-2.invariant.adds _ _ (writing_join _ _ _ _ _ _ _ _ _ _ _ _ _ _ _ c.loop-i.invariant c.write_gap-gap.ensures.writing) in
-    let T = turn_of c.requires.sound c.requires.le_r.0 c.requires.le_r.1 W c.if-i-words.false c.loop-i-2.invariant.some in
-    let k : c.loop-i-2.i ≤ c.if-key-word.i = elim c.if-key-word.branch [
-      | then-key-word w ↦ (let q = w.i-is in omega arith)
-      | else-key-word w ↦ (let q = w.i-is in omega arith)
-    ] in
-    let a = turn_falls T c.next-behind.ensures in
-    let b = c.loop-i-2.invariant.fewer in
-    let n = c.loop-i-2.invariant.since in
-    let l = T.less in
-    omega arith
-
-pub loop-i-preserved : goal.loop-i-preserved
-loop-i-preserved t c =
-    let W = c.loop-i-2.invariant.adds _ _ (writing_join _ _ _ _ _ _ _ _ _ _ _ _ _ _ _ c.loop-i.invariant c.write_gap-gap.ensures.writing) in
-    let T = turn_of c.requires.sound c.requires.le_r.0 c.requires.le_r.1 W c.if-i-words.false c.loop-i-2.invariant.some in
-    elim c.if-key-word.branch [
-      | then-key-word w ↦ elim w.if-ahead-ne0.branch [
-        | then-ahead-ne0 v ↦
-            turn_done T (turn_key T c.key-key.ensures) w.if-key-word.true w.write_ahead-ahead.ensures
-            (w.types-is ∙ v.types-is ∙ v.write_words-to.ensures.types_after) (w.to-is ∙ v.to-is ∙ v.write_words-to.ensures.value) c.next-behind.ensures w.i-is
-        | else-ahead-ne0 v ↦
-            let n = led_none w.write_ahead-ahead.ensures v.if-ahead-ne0.false in
-            turn_done T (turn_key T c.key-key.ensures) w.if-key-word.true w.write_ahead-ahead.ensures
-            (w.types-is ∙ v.types-is ∙ n.0) (w.to-is ∙ v.to-is ∙ n.1) c.next-behind.ensures w.i-is
-      ]
-      | else-key-word w ↦
-          turn_passed T (turn_key T c.key-key.ensures) c.if-word-key.false w.if-key-word.false c.next-behind.ensures w.types-is w.to-is w.i-is
+pub loop-c-preserved : goal.loop-c-preserved
+loop-c-preserved t c =
+    let T = writing_before c.loop-c.invariant c.in-Some.ensures.steps c.key-key.ensures c.if-end-word.false c.if-word-next.false
+    c.write_gap-to.ensures.0 c.write_gap-to.ensures.1 in
+    elim c.if-ahead-ne0.branch [
+      | then-ahead-ne0 w ↦
+          writing_next T.0 c.in-Some.ensures.steps c.if-end-word.false T.1 c.write_ahead-ahead.ensures
+          (w.types-is ∙ w.write_words-to.ensures.types_after) (w.to-is ∙ w.write_words-to.ensures.value)
+      | else-ahead-ne0 w ↦
+          let n = led_none c.write_ahead-ahead.ensures w.if-ahead-ne0.false in
+          writing_next T.0 c.in-Some.ensures.steps c.if-end-word.false T.1 c.write_ahead-ahead.ensures (w.types-is ∙ n.0) (w.to-is ∙ n.1)
     ]
 
-pub loop-i-2-smaller : goal.loop-i-2-smaller
-loop-i-2-smaller t c =
-    let W = c.loop-i-2.invariant.adds _ _ (writing_join _ _ _ _ _ _ _ _ _ _ _ _ _ _ _ c.loop-i.invariant c.write_gap-gap.ensures.writing) in
-    let T = turn_of c.requires.sound c.requires.le_r.0 c.requires.le_r.1 W c.if-i-words.false c.loop-i-2.invariant.some in
-    turn_falls T (sym c.if-behind-follow.false ∙ c.next-behind.ensures)
-
-pub loop-i-2-preserved : goal.loop-i-2-preserved
-loop-i-2-preserved t c =
-    let W = c.loop-i-2.invariant.adds _ _ (writing_join _ _ _ _ _ _ _ _ _ _ _ _ _ _ _ c.loop-i.invariant c.write_gap-gap.ensures.writing) in
-    let T = turn_of c.requires.sound c.requires.le_r.0 c.requires.le_r.1 W c.if-i-words.false c.loop-i-2.invariant.some in
-    let k : c.loop-i-2.i ≤ c.if-key-word.i = elim c.if-key-word.branch [
-      | then-key-word w ↦ (let q = w.i-is in omega arith)
-      | else-key-word w ↦ (let q = w.i-is in omega arith)
-    ] in
-    let d = sym c.if-behind-follow.false ∙ c.next-behind.ensures in
-    ran_next c.loop-i-2.invariant (λ list at X.
-    let U = turn_of c.requires.sound c.requires.le_r.0 c.requires.le_r.1 X c.if-i-words.false c.loop-i-2.invariant.some in
-    elim c.if-key-word.branch [
-      | then-key-word w ↦ elim w.if-ahead-ne0.branch [
-        | then-ahead-ne0 v ↦
-            turn_done U (turn_key U c.key-key.ensures) w.if-key-word.true w.write_ahead-ahead.ensures
-            (w.types-is ∙ v.types-is ∙ v.write_words-to.ensures.types_after) (w.to-is ∙ v.to-is ∙ v.write_words-to.ensures.value) d w.i-is
-        | else-ahead-ne0 v ↦
-            let n = led_none w.write_ahead-ahead.ensures v.if-ahead-ne0.false in
-            turn_done U (turn_key U c.key-key.ensures) w.if-key-word.true w.write_ahead-ahead.ensures
-            (w.types-is ∙ v.types-is ∙ n.0) (w.to-is ∙ v.to-is ∙ n.1) d w.i-is
-      ]
-      | else-key-word w ↦
-          turn_passed U (turn_key U c.key-key.ensures) c.if-word-key.false w.if-key-word.false d w.types-is w.to-is w.i-is
+pub write_gap-requires : goal.write_gap-requires
+write_gap-requires t c =
+    last_fits c.loop-c.invariant (elim c.match-next.branch [
+      | in-None w ↦ above_none c.loop-c.invariant _ w.in-None.ensures.steps.0
+      | in-Some+then-end-word w ↦ above_kid c.loop-c.invariant w.in-Some.ensures.steps w.key-key.ensures w.if-end-word.true
     ])
-    k refl (turn_falls T d)
 
 pub returns-clause-types_after : goal.returns-clause-types_after
 returns-clause-types_after t c =
-    (writing_done _ _ _ _ _ _ _ _ _ _ _ c.loop-i.invariant c.loop-i-test.false).0
+    (writing_last c.loop-c.invariant (elim c.match-next.branch [
+      | in-None w ↦ above_none c.loop-c.invariant _ w.in-None.ensures.steps.0
+      | in-Some+then-end-word w ↦ above_kid c.loop-c.invariant w.in-Some.ensures.steps w.key-key.ensures w.if-end-word.true
+    ]) c.write_gap.ensures.0 c.write_gap.ensures.1).0
 
 pub returns-clause-value : goal.returns-clause-value
 returns-clause-value t c =
-    (writing_done _ _ _ _ _ _ _ _ _ _ _ c.loop-i.invariant c.loop-i-test.false).1
+    (writing_last c.loop-c.invariant (elim c.match-next.branch [
+      | in-None w ↦ above_none c.loop-c.invariant _ w.in-None.ensures.steps.0
+      | in-Some+then-end-word w ↦ above_kid c.loop-c.invariant w.in-Some.ensures.steps w.key-key.ensures w.if-end-word.true
+    ]) c.write_gap.ensures.0 c.write_gap.ensures.1).1
