@@ -1,8 +1,6 @@
 -- A walk of the chain of p.
 use Rattle.std.proofs.Common.{◌≡◌, ℕ, zero, suc, ◌+◌, ◌-◌, ◌<◌, ◌≤◌, List, refl, arith}
-use Rattle.limits.specs.Limits.{record_width}
 use Rattle.facts.specs.Table.{key_of, child_of, next_of}
-use Rattle.facts.specs.Access.{Has}
 use Rattle.facts.specs.Links.{Kid}
 use Rattle.facts.specs.Linked.{First, Linked}
 
@@ -33,10 +31,6 @@ unfolding left
 left_none m zero k n = refl
 left_none m (suc c) k n = absurd (omega arith)
 
--- a child has its fields
-pub kid_has : (t : List ℕ) (u p c f : ℕ) → Linked t u → Kid t u p c → f < record_width → Has t c f
-kid_has t u p c f L d h = let a = d.above in let b = d.used in let w = L.whole in record { from = omega arith; within = omega arith; field = h }
-
 module _ (t : List ℕ) (u p : ℕ) (L : Linked t u) (p1 : 1 ≤ p) (pu : p ≤ u) where
   pub at_start : (k c : ℕ) → c ≡ child_of t p → At t u p k c
   at_start k c e = record { low = 0; below = omega arith; first = rw e (L.child p p1 pu) }
@@ -52,16 +46,6 @@ module _ (t : List ℕ) (u p : ℕ) (L : Linked t u) (p1 : 1 ≤ p) (pu : p ≤ 
           let f : First t u p (key_of t c + 1) c' = rw e (L.next p c p1 (a.first.kid n)) in
           let g = f.from n' in
           rw (left_some m c' (key_of t c') n') (omega arith)
-
-  pub at_found : (k c : ℕ) → At t u p k c → (c ≡ 0 → ⊥) → key_of t c ≡ k → Found t u p k c
-  at_found k c a n e = record { none = λ z. absurd (n z); kid = a.first.kid; key = λ _. e }
-
-  pub at_past : (k c : ℕ) → At t u p k c → k < key_of t c → Found t u p k 0
-  at_past k c a lt = record {
-    none = λ _ s d e. let l = a.first.least s d in let b = a.below in absurd (omega (arith, l (omega arith)));
-    kid = λ n. absurd (n refl);
-    key = λ n. absurd (n refl);
-  }
 
   pub at_none : (k c : ℕ) → At t u p k c → c ≡ 0 → Found t u p k 0
   at_none k c a z = record {

@@ -36,10 +36,6 @@ use Rattle.type_walk.specs.Plan.{plan, word_code, open_plan, kind_plan, plan_of,
 use Rattle.type_walk.proofs.PlanLaws.{codes_plan}
 use Rattle.type_walk.proofs.BoundLaws.{name_bound}
 
--- a key that no word comes to
-abbrev pub key_end : ℕ
-key_end = 4294967295
-
 -- "Count is 1 to 99 for an array, at most 134,217,727 for dynamic, else 0."
 count_none : (n : Node) → is_record n ≡ true → n.kind ≡ 0 → n.count ≡ 0
 count_none n h e = eqb-true n.count 0 (rw e at (fact_parts n h).fifth)
