@@ -1,7 +1,8 @@
-// The head lent by `&mut`: "the head (records used, decoder active) goes along with every call". Each thin function
-// calls the by-value core, and stores the core's head. Above the step and the closing stands one function with plain
-// parameters (`by_value.rt`), by which programs go through them. A contract here is its core's, `Outcome` of the names
-// in this place: a definition for its arguments would be one more to believe, and no plainer.
+// The head lent by `&mut`: "the head (records used, decoder active) goes along with every call". Each thin function takes
+// it apart, calls the by-value core, and stores what the core's head has: the form that document 01 names. Above the
+// step and the closing stands one function with plain parameters (`by_value.rt`), by which programs go through them. A
+// contract here is its core's, `Outcome` of the names in this place: a definition for its arguments would be one more to
+// believe, and no plainer.
 #![tactic(auto)]
 
 mod by_value;
@@ -26,8 +27,10 @@ pub fn fresh(head: &mut Head, table: &mut [u32]) -> Result<u32, Refusal>
     ensures { FreshOutcome (held head.old table.old) (answer_number result) (count_of result)
         (held head.new table.new) }
 {
-    let opened = head::fresh(*head, table);
-    *head = opened.head;
+    let Head { used, active } = *head;
+    let opened = head::fresh(Head { used, active }, table);
+    head.used = opened.head.used;
+    head.active = opened.head.active;
     opened.answer
 }
 
@@ -45,8 +48,11 @@ pub fn step(
         code.now numbers.now (answer_number result)
         (lend (held head.new table.new) stack.new memory.new) }
 {
-    let stepped = step::step(*head, table, code, stack, memory, numbers);
-    *head = stepped.head;
+    let Head { used, active } = *head;
+    let before = Head { used, active };
+    let stepped = step::step(before, table, code, stack, memory, numbers);
+    head.used = stepped.head.used;
+    head.active = stepped.head.active;
     stepped.answer
 }
 
@@ -63,7 +69,10 @@ pub fn close(
         (hand code.now start packed) (verdict_of result)
         (held head.new table.new) types.new }
 {
-    let closed = closing::close(*head, table, code, start, packed, types);
-    *head = closed.head;
+    let Head { used, active } = *head;
+    let before = Head { used, active };
+    let closed = closing::close(before, table, code, start, packed, types);
+    head.used = closed.head.used;
+    head.active = closed.head.active;
     closed.answer
 }
