@@ -39,7 +39,7 @@ fn put_separator(last: bool, w: &mut Writer)
     }
 }
 
-// A type is written: closes what it completes.
+// A type is written: closes what it completes. No index is counted: what is open is popped until a type lacks more.
 fn close(held: &mut Held, w: &mut Writer)
     requires { (length held.old.items ≤ codes_max)
         × (w.old.to + length (closers (stack_of held.old.items)) ≤ length w.old.out.now) }
