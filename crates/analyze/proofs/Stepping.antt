@@ -1,15 +1,14 @@
 -- The facts after a whole step: formed if they were, none lost, and as many as the plan on the facts before the step
 -- comes to, so that question 8 can be asked of these.
 use Prim.Native.Nat.{ℕ, ◌+◌, ◌≤◌}
-use mathlib.Core.Path.{◌≡◌, sym, ap, subst, ◌∙◌}
+use mathlib.Core.Path.{◌≡◌, refl, sym, ap, subst, ◌∙◌}
 use mathlib.Core.Bool.{Bool, cond, ◌||◌}
 use mathlib.Core.List.{List}
 use native.Mathlib.Omega.{arith}
-use lib.Dec.{eqb}
 use lib.ListN.{length}
+use Rattle.std.specs.Prelude.{Option, None, Some}
 use Rattle.facts.specs.State.{Node, node_of}
 use Rattle.facts.specs.Formed.{Formed}
-use Rattle.paths.specs.Order.{Ordered}
 use Rattle.paths.proofs.Adds.{same_missing}
 use Rattle.paths.proofs.Sounds.{formed_ordered}
 use Rattle.labels.specs.declared.Step.{Step}
@@ -33,10 +32,10 @@ use Rattle.analyze.proofs.Plans.{plan_reaches, plan_stores}
 use Rattle.analyze.proofs.Hinted.{hinted_plan}
 
 -- a path lacks what it did where hints are cleared
-clear_lacks : (s : List Node) (o : Operation) → Clears o → (f : FullPath) → lacks (run s o) f ≡ lacks s f
+clear_lacks : (s : List Node) (o : Operation) → Clears o → (f : Option FullPath) → lacks (run s o) f ≡ lacks s f
 unfolding lacks
-clear_lacks s o C f =
-    ap (λ (n : ℕ). cond (eqb f.path 0) 0 n) (same_missing s (run s o) (clear_same s o C) f.path f.offset)
+clear_lacks s o C None = refl
+clear_lacks s o C (Some f) = same_missing s (run s o) (clear_same s o C) f.path f.offset
 
 -- the facts s, and after the first phase
 module _ (s : List Node) (active : Bool) (x : Step) where
@@ -49,7 +48,7 @@ module _ (s : List Node) (active : Bool) (x : Step) where
       let C = hints_clear active x in
       clear_size (run s h.first) h.second C.second ∙ clear_size s h.first C.first
 
-  pub hinted_lacks : (f : FullPath) → lacks (hinted s active x) f ≡ lacks s f
+  pub hinted_lacks : (f : Option FullPath) → lacks (hinted s active x) f ≡ lacks s f
   unfolding run_all
   hinted_lacks f =
       let C = hints_clear active x in
@@ -87,34 +86,25 @@ module _ (m : Machine) (active : Bool) (bytes : List ℕ) (x : Step) where
   unfolding analyze run_plan
   analyze_facts = ap (λ (p : Plan). run_all cleared (operations p)) (hinted_plan before active bytes x)
 
-  module _ (O : Ordered before) (R : StepReaches (length before) x) where
-    reaches : PlanReaches (length before) plan
-    reaches = plan_reaches before O x R active bytes
+  -- how many records the plan comes to, on any facts
+  size : (s : List Node) → length (run_all s (operations plan))
+      ≡ length s + added_by s (makes plan.first) (makes plan.second) (makes plan.third)
+  size s = three_size s plan.first plan.second plan.third
 
-    -- how many records the plan comes to, on any facts
-    size : (s : List Node) → length (run_all s (operations plan))
-        ≡ length s + added_by s (makes plan.first) (makes plan.second) (makes plan.third)
-    size s =
-        let Q = reaches in
-        three_size (length before) s plan.first plan.second plan.third Q.first Q.second Q.third
+  -- question 8's count, on the facts before the step
+  pub analyze_room : length (analyze m active bytes x).state ≡ length (run_all before (operations plan))
+  analyze_room =
+      let f = makes plan.first in
+      let g = makes plan.second in
+      let k = makes plan.third in
+      let lack = hinted_lacks before active x in
+      let added : added_by cleared f g k ≡ added_by before f g k =
+      λ i. lack f i + cond (same f g) 0 (lack g i) + cond (same f k || same g k) 0 (lack k i) in
+      ap length analyze_facts ∙ size cleared ∙ (λ i. hinted_size before active x i + added i) ∙ sym (size before)
 
-    -- question 8's count, on the facts before the step
-    pub analyze_room : length (analyze m active bytes x).state ≡ length (run_all before (operations plan))
-    analyze_room =
-        let f = makes plan.first in
-        let g = makes plan.second in
-        let k = makes plan.third in
-        let lack = hinted_lacks before active x in
-        let added : added_by cleared f g k ≡ added_by before f g k =
-        λ i. lack f i + cond (same f g) 0 (lack g i) + cond (same f k || same g k) 0 (lack k i) in
-        ap length analyze_facts ∙ size cleared ∙ (λ i. hinted_size before active x i + added i) ∙ sym (size before)
-
-    -- no record is lost
-    pub analyze_grows : length before ≤ length (analyze m active bytes x).state
-    analyze_grows =
-        let e = analyze_room in
-        let g = run_all_grows (length before) before (operations plan) (plan_each (length before) plan reaches) in
-        omega arith
+  -- no record is lost
+  pub analyze_grows : length before ≤ length (analyze m active bytes x).state
+  analyze_grows = let e = analyze_room in let g = run_all_grows before (operations plan) in omega arith
 
   -- question 2, said of nodes, holds of what a step leaves
   pub analyze_formed : Formed before → StepReaches (length before) x → StepFits x
@@ -122,7 +112,8 @@ module _ (m : Machine) (active : Bool) (bytes : List ℕ) (x : Step) where
   analyze_formed F R fits =
       let O = formed_ordered before F in
       let T = plan_stores before O x R fits active bytes in
-      let Q = subst (λ (u : ℕ). PlanReaches u plan) (sym (hinted_size before active x)) (reaches O R) in
+      let Q = subst (λ (u : ℕ). PlanReaches u plan) (sym (hinted_size before active x))
+      (plan_reaches before O x R active bytes) in
       subst Formed (sym analyze_facts)
       (run_all_formed cleared (operations plan) (hinted_formed before active x F R) (plan_each (length cleared) plan Q)
       (T.first, (T.second, (T.third, tt))))

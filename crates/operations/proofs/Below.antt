@@ -2,9 +2,9 @@
 use Prim.Native.Nat.{ℕ}
 use mathlib.Core.Path.{◌≡◌, refl, sym, ap, subst}
 use mathlib.Core.List.{List, [], ◌∷◌, ◌++◌}
-use native.Mathlib.Omega.{arith}
 use native.Mathlib.Decide.{ℕ_discrete}
 use lib.ListN.{length}
+use Rattle.std.specs.Prelude.{IfSome}
 use Rattle.facts.specs.Formed.{Formed}
 use Rattle.facts.specs.State.{Node}
 use Rattle.paths.specs.Path.{path_of}
@@ -23,28 +23,28 @@ use Rattle.operations.proofs.Lists.{Each, each_more}
 use Rattle.operations.proofs.Framing.{Rooted, formed_rooted, rooted_only, run_rooted}
 
 -- which key a named path begins with: its own below the root, and else that of the path that it continues
-pub makes_root : (s : List Node) (o : Operation) → (makes o).path ≡ 1 → NamesBelow (makes o).offset s o
-makes_root s Nothing e = tt
-makes_root s (ClearRangeHint p k block) e = absurd (omega arith)
-makes_root s ClearRangeHints e = absurd (omega arith)
-makes_root s (MarkNotBool p k) e = rw e (begins_root s k)
-makes_root s (InsertNotBool p k) e = rw e (begins_root s k)
-makes_root s (GetOrCreate p k) e = rw e (begins_root s k)
-makes_root s (SetTname p k name confidence) e = rw e (begins_root s k)
-makes_root s (SetDynamic p k count) e = rw e (begins_root s k)
-makes_root s (SetArray r count) e = absurd (omega arith)
+pub makes_root : (s : List Node) (o : Operation) → IfSome (makes o) (λ f. f.path ≡ 1 → NamesBelow f.offset s o)
+makes_root s Nothing = tt
+makes_root s (ClearRangeHint p k block) = tt
+makes_root s ClearRangeHints = tt
+makes_root s (MarkNotBool p k) = λ e. rw e (begins_root s k)
+makes_root s (InsertNotBool p k) = λ e. rw e (begins_root s k)
+makes_root s (GetOrCreate p k) = λ e. rw e (begins_root s k)
+makes_root s (SetTname p k name confidence) = λ e. rw e (begins_root s k)
+makes_root s (SetDynamic p k count) = λ e. rw e (begins_root s k)
+makes_root s (SetArray r count) = tt
 
-pub makes_more : (a : ℕ) (s : List Node) (o : Operation) → ((makes o).path ≡ 0 → ⊥)
-    → Begins a (path_of s (makes o).path) → NamesBelow a s o
-makes_more a s Nothing n b = tt
-makes_more a s (ClearRangeHint p k block) n b = absurd (n refl)
-makes_more a s ClearRangeHints n b = absurd (n refl)
-makes_more a s (MarkNotBool p k) n b = begins_more a k (path_of s p) b
-makes_more a s (InsertNotBool p k) n b = begins_more a k (path_of s p) b
-makes_more a s (GetOrCreate p k) n b = begins_more a k (path_of s p) b
-makes_more a s (SetTname p k name confidence) n b = begins_more a k (path_of s p) b
-makes_more a s (SetDynamic p k count) n b = begins_more a k (path_of s p) b
-makes_more a s (SetArray r count) n b = absurd (n refl)
+pub makes_more : (a : ℕ) (s : List Node) (o : Operation)
+    → IfSome (makes o) (λ f. Begins a (path_of s f.path) → NamesBelow a s o)
+makes_more a s Nothing = tt
+makes_more a s (ClearRangeHint p k block) = tt
+makes_more a s ClearRangeHints = tt
+makes_more a s (MarkNotBool p k) = begins_more a k (path_of s p)
+makes_more a s (InsertNotBool p k) = begins_more a k (path_of s p)
+makes_more a s (GetOrCreate p k) = begins_more a k (path_of s p)
+makes_more a s (SetTname p k name confidence) = begins_more a k (path_of s p)
+makes_more a s (SetDynamic p k count) = begins_more a k (path_of s p)
+makes_more a s (SetArray r count) = tt
 
 -- records keep their paths, so later the same path is named
 module _ (At New : List ℕ → Type 0) (s s' : List Node) (C : Changes At New s s') where

@@ -4,15 +4,17 @@ use mathlib.Core.Path.{◌≡◌, refl, sym, subst}
 use mathlib.Core.List.{List}
 use native.Mathlib.Omega.{arith}
 use lib.ListN.{length}
+use Rattle.std.specs.Prelude.{Option, Some}
 use Rattle.facts.specs.State.{Node, nodes}
 use Rattle.facts.proofs.Encode.{length_nodes}
 use Rattle.paths.specs.Find.{find_in}
 use Rattle.paths.specs.Adds.{AddsPath}
 use Rattle.paths.proofs.Finds.{missing_none}
+use Rattle.operations.specs.declared.FullPath.{FullPath}
 use Rattle.operations.specs.declared.Operation.{Operation}
 use Rattle.operations.specs.Run.{run}
-use Rattle.operations.specs.Asks.{IsUsed, Reaches, makes}
-use Rattle.operations.proofs.Changes.{used_some, run_adds}
+use Rattle.operations.specs.Asks.{makes}
+use Rattle.operations.proofs.Changes.{AddsMade, run_adds}
 
 -- where the facts with the path fit, there is a record for it
 module _ (t : List ℕ) (u n : ℕ) where
@@ -23,12 +25,8 @@ module _ (t : List ℕ) (u n : ℕ) where
       let e = A.size in
       omega arith
 
-  pub run_room : (o : Operation) → IsUsed u (makes o).path → length (run (nodes t u) o) ≤ n
-      → find_in (nodes t u) (makes o).path (makes o).offset ≡ 0 → u < n
-  run_room o U fits =
-      path_room (makes o).path (makes o).offset (run (nodes t u) o) (run_adds (nodes t u) o (used_some u (makes o).path U)) fits
-
--- the same of an operation by its name
-pub operation_room : (t : List ℕ) (u n : ℕ) (o : Operation) → length (run (nodes t u) o) ≤ n → (v : Operation) → o ≡ v → Reaches u o
-    → IsUsed u (makes v).path → find_in (nodes t u) (makes v).path (makes v).offset ≡ 0 → u < n
-operation_room t u n o fits v e R U = run_room t u n v U (subst (λ (x : Operation). length (run (nodes t u) x) ≤ n) e fits)
+  pub run_room : (o : Operation) (f : FullPath) → makes o ≡ Some f → length (run (nodes t u) o) ≤ n
+      → find_in (nodes t u) f.path f.offset ≡ 0 → u < n
+  run_room o f e fits =
+      let s = nodes t u in
+      path_room f.path f.offset (run s o) (subst (λ (m : Option FullPath). AddsMade s m (run s o)) e (run_adds s o)) fits

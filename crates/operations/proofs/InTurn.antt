@@ -3,13 +3,12 @@ use Rattle.std.proofs.Common.{◌≡◌, ℕ, ◌≤◌, List, ◌∷◌, length
 use Rattle.facts.specs.State.{Node}
 use Rattle.operations.specs.declared.Operation.{Operation}
 use Rattle.operations.specs.Run.{run, run_all}
-use Rattle.operations.specs.Asks.{Reaches}
-use Rattle.operations.proofs.Lists.{Each, run_all_grows}
+use Rattle.operations.proofs.Lists.{run_all_grows}
 
-pub first_fits : (u n : ℕ) (s : List Node) (o : Operation) (os : List Operation) → Each (Reaches u) os
-    → length (run_all s (o ∷ os)) ≤ n → length (run s o) ≤ n
+pub first_fits : (n : ℕ) (s : List Node) (o : Operation) (os : List Operation) → length (run_all s (o ∷ os)) ≤ n
+    → length (run s o) ≤ n
 unfolding run_all
-first_fits u n s o os R fits = let g = run_all_grows u (run s o) os R in omega arith
+first_fits n s o os fits = let g = run_all_grows (run s o) os in omega arith
 
 -- and the others, on the facts that it leaves
 pub next_fits : (n : ℕ) (s s' : List Node) (o : Operation) (os : List Operation) → s' ≡ run s o → length (run_all s (o ∷ os)) ≤ n

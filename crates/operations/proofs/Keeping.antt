@@ -45,7 +45,7 @@ unfolding run_all
 run_all_formed s [] F R T = F
 run_all_formed s (o ∷ os) F R T =
     run_all_formed (run s o) os (run_formed s o F R.0 T.0)
-    (each_more (length s) (length (run s o)) (run_grows (length s) s o R.0) os R.1) T.1
+    (each_more (length s) (length (run s o)) (run_grows s o) os R.1) T.1
 
 -- by its contract
 pub run_sound : (t t' : List ℕ) (used used' n : ℕ) (o : Operation) → Sound t used n → Reaches used o → Stores o

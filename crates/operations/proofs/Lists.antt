@@ -3,18 +3,19 @@ use Prim.Native.Nat.{ℕ, ◌≤◌}
 use mathlib.Core.Path.{◌≡◌, refl, sym, ap, ◌∙◌}
 use mathlib.Core.List.{List, [], ◌∷◌, ◌++◌}
 use native.Mathlib.Omega.{arith}
-use native.Mathlib.Decide.{ℕ_discrete}
 use lib.ListN.{length, take}
 use lib.Seq.{take_all, take-take}
+use Rattle.std.specs.Prelude.{Option, None, Some}
 use Rattle.facts.specs.State.{Node, paths}
 use Rattle.paths.proofs.Kept.{length_paths}
+use Rattle.operations.specs.declared.FullPath.{FullPath}
 use Rattle.operations.specs.declared.Operation.{Operation}
 use Rattle.operations.specs.declared.Operation.TheVariants.{Nothing, ClearRangeHint, ClearRangeHints}
 use Rattle.operations.specs.declared.Operation.TheVariants.{MarkNotBool, InsertNotBool, GetOrCreate}
 use Rattle.operations.specs.declared.Operation.TheVariants.{SetTname, SetDynamic, SetArray}
 use Rattle.operations.specs.Run.{run, run_all}
 use Rattle.operations.specs.Asks.{IsUsed, Reaches, makes}
-use Rattle.operations.proofs.Changes.{run_adds, run_same}
+use Rattle.operations.proofs.Changes.{AddsMade, run_adds}
 use Rattle.operations.proofs.Sizes.{run_grows}
 
 -- each of the operations is such
@@ -53,28 +54,23 @@ run_append s [] qs = refl
 run_append s (o ∷ os) qs = run_append (run s o) os qs
 
 -- no record is lost
-pub run_all_grows : (used : ℕ) (s : List Node) (os : List Operation) → Each (Reaches used) os
-    → length s ≤ length (run_all s os)
+pub run_all_grows : (s : List Node) (os : List Operation) → length s ≤ length (run_all s os)
 unfolding run_all
-run_all_grows used s [] E = omega arith
-run_all_grows used s (o ∷ os) E =
-    let a = run_grows used s o E.0 in let b = run_all_grows used (run s o) os E.1 in omega arith
+run_all_grows s [] = omega arith
+run_all_grows s (o ∷ os) = let a = run_grows s o in let b = run_all_grows (run s o) os in omega arith
 
 -- and no path moves
-pub run_paths : (used : ℕ) (s : List Node) (o : Operation) → Reaches used o
-    → take (length s) (paths (run s o)) ≡ paths s
-run_paths used s o R = go (ℕ_discrete (makes o).path 0)
+pub run_paths : (s : List Node) (o : Operation) → take (length s) (paths (run s o)) ≡ paths s
+run_paths s o = go (makes o) (run_adds s o)
   where
-    go : Dec ((makes o).path ≡ 0) → take (length s) (paths (run s o)) ≡ paths s
-    go (yes z) =
-        ap (take (length s)) (run_same used s o R z).kept
-        ∙ take_all (length s) (paths s) (let e = length_paths s in omega arith)
-    go (no n) = (run_adds s o n).kept
+    go : (m : Option FullPath) → AddsMade s m (run s o) → take (length s) (paths (run s o)) ≡ paths s
+    go None A =
+        ap (take (length s)) A.kept ∙ take_all (length s) (paths s) (let e = length_paths s in omega arith)
+    go (Some f) A = A.kept
 
-pub run_all_paths : (used : ℕ) (s : List Node) (os : List Operation) → Each (Reaches used) os
-    → take (length s) (paths (run_all s os)) ≡ paths s
+pub run_all_paths : (s : List Node) (os : List Operation) → take (length s) (paths (run_all s os)) ≡ paths s
 unfolding run_all
-run_all_paths used s [] E = take_all (length s) (paths s) (let e = length_paths s in omega arith)
-run_all_paths used s (o ∷ os) E =
-    sym (take-take (length s) (length (run s o)) (paths (run_all (run s o) os)) (run_grows used s o E.0))
-    ∙ ap (take (length s)) (run_all_paths used (run s o) os E.1) ∙ run_paths used s o E.0
+run_all_paths s [] = take_all (length s) (paths s) (let e = length_paths s in omega arith)
+run_all_paths s (o ∷ os) =
+    sym (take-take (length s) (length (run s o)) (paths (run_all (run s o) os)) (run_grows s o))
+    ∙ ap (take (length s)) (run_all_paths (run s o) os) ∙ run_paths s o

@@ -1,44 +1,21 @@
 -- Question 8's count: what its functions ask for, and what they tell.
 use Prim.Native.Nat.{ℕ, ◌+◌, ◌-◌, ◌≤◌}
 use mathlib.Core.Path.{◌≡◌, refl, sym, ap, ◌∙◌}
-use mathlib.Core.Bool.{Bool, true, false, true≢false, cond, ◌||◌}
+use mathlib.Core.Bool.{Bool, true, false, cond, ◌||◌}
 use mathlib.Core.List.{List, [], ◌∷◌}
 use native.Mathlib.Omega.{arith}
-use lib.Dec.{eqb, leb}
+use lib.Dec.{leb}
 use lib.ListN.{length}
-use borrow.Author.Tests.{eqb-true, eqb-false, le-leb, leb-true, leb-false, lt-leb}
+use borrow.Author.Tests.{le-leb, leb-true, leb-false, lt-leb}
+use Rattle.std.specs.Prelude.{Option}
 use Rattle.facts.specs.State.{Node, nodes}
 use Rattle.facts.proofs.Encode.{length_nodes}
-use Rattle.paths.specs.Adds.{missing}
 use Rattle.paths.specs.Shape.{Shaped}
 use Rattle.operations.specs.declared.FullPath.{FullPath}
 use Rattle.operations.specs.declared.Operation.{Operation}
 use Rattle.operations.specs.Run.{run_all}
-use Rattle.operations.specs.Asks.{Reaches, makes, same, lacks}
-use Rattle.operations.proofs.Sizes.{lacks_none, lacks_some, lacks_most, added_by, three_size}
-
--- one path, looked up unless it is counted or there is none
-module _ (t : List ℕ) (u : ℕ) (f : FullPath) (b : Bool) where
-  pub lack_none : (b || eqb f.path 0) ≡ true → (0 ≡ cond b 0 (lacks (nodes t u) f)) × (0 ≤ 1)
-  lack_none e = (go b e, omega arith)
-    where
-      go : (b : Bool) → (b || eqb f.path 0) ≡ true → 0 ≡ cond b 0 (lacks (nodes t u) f)
-      go true e = refl
-      go false e = sym (lacks_none (nodes t u) f (eqb-true f.path 0 e))
-
-  -- then its record is one
-  some : (b : Bool) → (b || eqb f.path 0) ≡ false → f.path ≡ 0 → ⊥
-  some true e = absurd (true≢false e)
-  some false e = eqb-false f.path 0 e
-
-  pub lack_some : (r : ℕ) → (b || eqb f.path 0) ≡ false → (r ≡ missing (nodes t u) f.path f.offset) × (r ≤ 1)
-      → (r ≡ cond b 0 (lacks (nodes t u) f)) × (r ≤ 1)
-  lack_some r e w = (w.0 ∙ go b e, w.1)
-    where
-      go : (b : Bool) → (b || eqb f.path 0) ≡ false
-          → missing (nodes t u) f.path f.offset ≡ cond b 0 (lacks (nodes t u) f)
-      go true e = absurd (true≢false e)
-      go false e = sym (lacks_some (nodes t u) f (some false e))
+use Rattle.operations.specs.Asks.{makes, same, lacks}
+use Rattle.operations.proofs.Sizes.{lacks_most, added_by, three_size}
 
 -- as much is free as is left
 room_left : (x u n : ℕ) → u ≤ n → leb x (n - u) ≡ leb (u + x) n
@@ -54,34 +31,33 @@ one true m h = omega arith
 one false m h = h
 
 -- three operations
-module _ (t : List ℕ) (u n : ℕ) (a b c : Operation) (S : Shaped t u n) (R : Reaches u a × Reaches u b × Reaches u c)
-  where
-    size : length (run_all (nodes t u) (a ∷ b ∷ c ∷ [])) ≡ u + added_by (nodes t u) (makes a) (makes b) (makes c)
-    size = let e = three_size u (nodes t u) a b c R.0 R.1 R.2 in let l = length_nodes t u in omega arith
+module _ (t : List ℕ) (u n : ℕ) (a b c : Operation) (S : Shaped t u n) where
+  size : length (run_all (nodes t u) (a ∷ b ∷ c ∷ [])) ≡ u + added_by (nodes t u) (makes a) (makes b) (makes c)
+  size = let e = three_size (nodes t u) a b c in let l = length_nodes t u in omega arith
 
-    pub room_enough : 3 ≤ n - u → true ≡ leb (length (run_all (nodes t u) (a ∷ b ∷ c ∷ []))) n
-    room_enough h =
-        let e = size in
-        let m = S.most in
-        let x = lacks_most (nodes t u) (makes a) in
-        let y = one (same (makes a) (makes b)) (lacks (nodes t u) (makes b)) (lacks_most (nodes t u) (makes b)) in
-        let z = one (same (makes a) (makes c) || same (makes b) (makes c)) (lacks (nodes t u) (makes c))
-        (lacks_most (nodes t u) (makes c)) in
-        sym (le-leb (length (run_all (nodes t u) (a ∷ b ∷ c ∷ []))) n (omega arith))
+  pub room_enough : 3 ≤ n - u → true ≡ leb (length (run_all (nodes t u) (a ∷ b ∷ c ∷ []))) n
+  room_enough h =
+      let e = size in
+      let m = S.most in
+      let x = lacks_most (nodes t u) (makes a) in
+      let y = one (same (makes a) (makes b)) (lacks (nodes t u) (makes b)) (lacks_most (nodes t u) (makes b)) in
+      let z = one (same (makes a) (makes c) || same (makes b) (makes c)) (lacks (nodes t u) (makes c))
+      (lacks_most (nodes t u) (makes c)) in
+      sym (le-leb (length (run_all (nodes t u) (a ∷ b ∷ c ∷ []))) n (omega arith))
 
-    pub room_counted : (f g h : FullPath) → f ≡ makes a → g ≡ makes b → h ≡ makes c
-        → (x y z : Bool) → x ≡ same f g → y ≡ same f h → z ≡ same g h
-        → (r r' r'' : ℕ) → r ≡ lacks (nodes t u) f → r' ≡ cond x 0 (lacks (nodes t u) g)
-        → r'' ≡ cond (y || z) 0 (lacks (nodes t u) h)
-        → leb (r + r' + r'') (n - u) ≡ leb (length (run_all (nodes t u) (a ∷ b ∷ c ∷ []))) n
-    room_counted f g h ef eg eh x y z ex ey ez r r' r'' e e' e'' =
-        room_left (r + r' + r'') u n S.most ∙ ap (λ (m : ℕ). leb m n) (ap (λ (m : ℕ). u + m) sum ∙ sym size)
-      where
-        s : List Node
-        s = nodes t u
+  pub room_counted : (f g h : Option FullPath) → f ≡ makes a → g ≡ makes b → h ≡ makes c
+      → (x y z : Bool) → x ≡ same f g → y ≡ same f h → z ≡ same g h
+      → (r r' r'' : ℕ) → r ≡ lacks (nodes t u) f → r' ≡ cond x 0 (lacks (nodes t u) g)
+      → r'' ≡ cond (y || z) 0 (lacks (nodes t u) h)
+      → leb (r + r' + r'') (n - u) ≡ leb (length (run_all (nodes t u) (a ∷ b ∷ c ∷ []))) n
+  room_counted f g h ef eg eh x y z ex ey ez r r' r'' e e' e'' =
+      room_left (r + r' + r'') u n S.most ∙ ap (λ (m : ℕ). leb m n) (ap (λ (m : ℕ). u + m) sum ∙ sym size)
+    where
+      s : List Node
+      s = nodes t u
 
-        sum : r + r' + r'' ≡ added_by (nodes t u) (makes a) (makes b) (makes c)
-        sum =
-            (λ i. e i + e' i + e'' i)
-            ∙ (λ i. lacks s f + cond (ex i) 0 (lacks s g) + cond (ey i || ez i) 0 (lacks s h))
-            ∙ (λ i. added_by (nodes t u) (ef i) (eg i) (eh i))
+      sum : r + r' + r'' ≡ added_by (nodes t u) (makes a) (makes b) (makes c)
+      sum =
+          (λ i. e i + e' i + e'' i)
+          ∙ (λ i. lacks s f + cond (ex i) 0 (lacks s g) + cond (ey i || ez i) 0 (lacks s h))
+          ∙ (λ i. added_by (nodes t u) (ef i) (eg i) (eh i))

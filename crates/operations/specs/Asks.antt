@@ -1,6 +1,6 @@
 -- What an operation asks of the state, and which path it makes: in these words one function promises something to
 -- another.
-use Rattle.std.specs.Prelude.{ℕ, ◌≤◌, ◌≡◌, Bool, true, cond, ◌&&◌, List, eqb}
+use Rattle.std.specs.Prelude.{ℕ, ◌≤◌, ◌≡◌, Bool, true, false, ◌&&◌, List, eqb, Option, None, Some}
 use Rattle.limits.specs.Limits.{confidence_max, array_count_max, dynamic_count_max}
 use Rattle.names.specs.Elementary.{is_name}
 use Rattle.facts.specs.State.{Node}
@@ -43,25 +43,31 @@ Stores (SetArray r count) = (1 ≤ count) × (count ≤ array_count_max)
 abbrev pub full_path : ℕ → ℕ → FullPath
 full_path path offset = record { path = path; offset = offset }
 
--- the path that an operation makes; path 0 where it makes none
-abbrev pub makes : Operation → FullPath
-makes Nothing = full_path 0 0
-makes (ClearRangeHint p k block) = full_path 0 0
-makes ClearRangeHints = full_path 0 0
-makes (MarkNotBool p k) = full_path p k
-makes (InsertNotBool p k) = full_path p k
-makes (GetOrCreate p k) = full_path p k
-makes (SetTname p k name confidence) = full_path p k
-makes (SetDynamic p k count) = full_path p k
-makes (SetArray r count) = full_path 0 0
+-- the path that an operation makes, if it makes one
+abbrev pub makes : Operation → Option FullPath
+makes Nothing = None
+makes (ClearRangeHint p k block) = None
+makes ClearRangeHints = None
+makes (MarkNotBool p k) = Some (full_path p k)
+makes (InsertNotBool p k) = Some (full_path p k)
+makes (GetOrCreate p k) = Some (full_path p k)
+makes (SetTname p k name confidence) = Some (full_path p k)
+makes (SetDynamic p k count) = Some (full_path p k)
+makes (SetArray r count) = None
 
 -- the record that it continues is used, if there is one
-abbrev pub PathReaches : ℕ → FullPath → Type 0
-PathReaches used f = (f.path ≡ 0 → ⊥) → IsUsed used f.path
+abbrev pub PathReaches : ℕ → Option FullPath → Type 0
+PathReaches used None = Unit {0}
+PathReaches used (Some f) = IsUsed used f.path
 
-abbrev pub same : FullPath → FullPath → Bool
-same f g = eqb f.path g.path && eqb f.offset g.offset
+-- the same path, or none twice
+abbrev pub same : Option FullPath → Option FullPath → Bool
+same None None = true
+same None (Some g) = false
+same (Some f) None = false
+same (Some f) (Some g) = eqb f.path g.path && eqb f.offset g.offset
 
--- 1 where it is missing
-unfoldable pub lacks : List Node → FullPath → ℕ
-lacks s f = cond (eqb f.path 0) 0 (missing s f.path f.offset)
+-- 1 where there is one and it is missing
+unfoldable pub lacks : List Node → Option FullPath → ℕ
+lacks s None = 0
+lacks s (Some f) = missing s f.path f.offset

@@ -27,8 +27,7 @@ pub enum Operation {
     SetArray(u32, u32),
 }
 
-// The path that an operation makes, if it is not there: the record that it continues, 0 where none is made, and its
-// last key.
+// The path that an operation makes, if it is not there: the record that it continues and its last key.
 #[derive(Clone, Copy, Debug, PartialEq, Eq)]
 pub struct FullPath {
     pub path: u32,

@@ -7,8 +7,8 @@ ghost use Rattle.operations.specs.Asks.{Reaches, PathReaches, makes, same, lacks
 use crate::{FullPath, Operation};
 use paths::Facts;
 
-// The path that the operation makes.
-fn full_path(operation: Operation) -> FullPath
+// The path that the operation makes, if it makes one.
+fn full_path(operation: Operation) -> Option<FullPath>
     ensures { result ≡ makes operation }
 {
     match operation {
@@ -16,23 +16,24 @@ fn full_path(operation: Operation) -> FullPath
         | Operation::InsertNotBool(path, offset)
         | Operation::GetOrCreate(path, offset)
         | Operation::SetTname(path, offset, _, _)
-        | Operation::SetDynamic(path, offset, _) => FullPath { path, offset },
+        | Operation::SetDynamic(path, offset, _) => Some(FullPath { path, offset }),
         Operation::Nothing
         | Operation::ClearRangeHint(_, _, _)
         | Operation::ClearRangeHints
-        | Operation::SetArray(_, _) => FullPath { path: 0, offset: 0 },
+        | Operation::SetArray(_, _) => None,
     }
 }
 
-// Is the path missing, and is it not counted yet? 1 if so.
-fn lack(facts: &Facts, made: FullPath, counted: bool) -> u32
+// Is there a path, is it missing, and is it not counted yet? 1 if so.
+#[tactic(auto, unfolding(crate::specs::Asks::lacks))]
+fn lack(facts: &Facts, made: Option<FullPath>, counted: bool) -> u32
     requires { PathReaches facts.now.used made }
     ensures { (result ≡ cond counted 0 (lacks (facts_of facts.now) made)) × (result ≤ 1) }
 {
-    if counted | (made.path == 0) {
-        return 0;
+    match made {
+        Some(made) if !counted => facts.missing(made.path, made.offset),
+        _ => 0,
     }
-    facts.missing(made.path, made.offset)
 }
 
 // A step's operations, which add three records at most.

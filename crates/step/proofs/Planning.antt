@@ -78,7 +78,7 @@ module _ (N : ℕ) (head : Head) (table stack memory bytes x : List ℕ) (P : Pa
         room_is =
             room ∙ (λ i. leb (length (run_all state (operations (plan_is i)))) (P.admitted.is i))
             ∙ ap (λ (n : ℕ). leb n (records_in (held head table)))
-            (sym (analyze_room (machine_of l) active bytes (step_of x) passed_ordered facts_reach))
+            (sym (analyze_room (machine_of l) active bytes (step_of x)))
 
         pub no_room : b ≡ false → Outcome l bytes x 8 l
         unfolding step_tests

@@ -1,21 +1,21 @@
 use Rattle.operations.specs.Run.{run}
-use Rattle.operations.specs.declared.Operation.TheVariants.{MarkNotBool, InsertNotBool, GetOrCreate, SetTname}
+use Rattle.operations.specs.Asks.{makes}
 use Rattle.paths.proofs.Lending.{stays, grows_so}
-use Rattle.operations.proofs.Calls.{operation_room}
-use Rattle.std.proofs.Common.{refl}
+use Rattle.operations.proofs.Calls.{run_room}
+use Rattle.std.proofs.Common.{refl, ap}
 use Rattle.operations.proofs.running.run.Goals as goal
 
 pub mark_not_bool-requires-clause-room : goal.mark_not_bool-requires-clause-room
-mark_not_bool-requires-clause-room c = operation_room _ _ _ _ c.requires.room (MarkNotBool c.in-MarkNotBool.p c.in-MarkNotBool.k) c.in-MarkNotBool.is c.requires.reaches (rw c.in-MarkNotBool.is at c.requires.reaches)
+mark_not_bool-requires-clause-room c = run_room _ _ _ _ _ (ap makes c.in-MarkNotBool.is) c.requires.room
 
 pub insert_not_bool-requires-clause-room : goal.insert_not_bool-requires-clause-room
-insert_not_bool-requires-clause-room c = operation_room _ _ _ _ c.requires.room (InsertNotBool c.in-InsertNotBool.p c.in-InsertNotBool.k) c.in-InsertNotBool.is c.requires.reaches (rw c.in-InsertNotBool.is at c.requires.reaches)
+insert_not_bool-requires-clause-room c = run_room _ _ _ _ _ (ap makes c.in-InsertNotBool.is) c.requires.room
 
 pub get_or_create-requires-clause-room : goal.get_or_create-requires-clause-room
-get_or_create-requires-clause-room c = operation_room _ _ _ _ c.requires.room (GetOrCreate c.in-GetOrCreate.p c.in-GetOrCreate.k) c.in-GetOrCreate.is c.requires.reaches (rw c.in-GetOrCreate.is at c.requires.reaches)
+get_or_create-requires-clause-room c = run_room _ _ _ _ _ (ap makes c.in-GetOrCreate.is) c.requires.room
 
 pub set_tname-requires-clause-room : goal.set_tname-requires-clause-room
-set_tname-requires-clause-room c = operation_room _ _ _ _ c.requires.room (SetTname c.in-SetTname.p c.in-SetTname.k c.in-SetTname.name c.in-SetTname.confidence) c.in-SetTname.is c.requires.reaches (rw c.in-SetTname.is at c.requires.reaches)
+set_tname-requires-clause-room c = run_room _ _ _ _ _ (ap makes c.in-SetTname.is) c.requires.room
 
 pub returns-in-Nothing : goal.returns-in-Nothing
 unfolding run

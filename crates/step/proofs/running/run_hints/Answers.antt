@@ -2,4 +2,4 @@ use Rattle.operations.proofs.InTurn.{first_fits}
 use Rattle.step.proofs.running.run_hints.Goals as goal
 
 pub run-requires-clause-room : goal.run-requires-clause-room
-run-requires-clause-room c = first_fits _ _ _ _ _ (c.requires.reach.second, tt) c.requires.room
+run-requires-clause-room c = first_fits _ _ _ _ c.requires.room
