@@ -1,8 +1,6 @@
--- What the code of a step asks for: labels whose paths are used records, in a table that holds a state. In these words
--- one function promises something to another.
-use Rattle.std.specs.Prelude.{ℕ, ◌≤◌, List, Option, None, Some}
-use Rattle.limits.specs.Limits.{records_max}
-use Rattle.paths.specs.Shape.{Shaped}
+-- What the code of a step asks for: labels whose paths are used records. In these words one function promises something
+-- to another.
+use Rattle.std.specs.Prelude.{ℕ, Option, None, Some}
 use Rattle.labels.specs.declared.Label.{Label}
 use Rattle.labels.specs.declared.Label.TheVariants.{Unlabelled, CallData, Arg, IsZeroResult}
 use Rattle.labels.specs.declared.Step.{Step}
@@ -10,11 +8,6 @@ use Rattle.labels.specs.declared.Choice.{Choice}
 use Rattle.operations.specs.Asks.{IsUsed, Reaches}
 use Rattle.analyze.specs.declared.Plan.{Plan}
 use Rattle.analyze.specs.declared.Hints.{Hints}
-
--- a table of n records that holds the state of its first used ones
-pub record Ready (t : List ℕ) (used n : ℕ) : Type 0 where
-  pub shaped : Shaped t used n
-  pub small : n ≤ records_max
 
 -- "each path of kind 2 or 3 a used record"
 abbrev pub LabelReaches : ℕ → Label → Type 0

@@ -129,7 +129,7 @@ pub fn mul(facts: &Facts, step: Step) -> Plan
     requires { StepReaches facts.now.used step }
     ensures { result ≡ mul (facts_of facts.now) step }
 {
-    // A closure around `is_length`: named alone, a function of another crate is refused (its contract has no file).
+    // A closure around `is_length`: the check takes no function of another crate by its name alone.
     match choose(|val| is_length(val), step.first, step.second) {
         Some(Choice { val, other, .. }) => { multiply(facts, val.path, other.label, other.word) }
         None => {

@@ -12,7 +12,7 @@ use borrow.Author.Tests.{ne_eqb}
 use Rattle.limits.specs.Confidences.{by_range}
 use Rattle.limits.specs.Codes as code
 use Rattle.limits.specs.Fields as field
-use Rattle.facts.specs.Table.{key_of, parent_of, child_of, next_of}
+use Rattle.facts.specs.Table.{key_of, parent_of, next_of}
 use Rattle.facts.specs.Links.{Kid}
 use Rattle.facts.specs.Linked.{First}
 use Rattle.facts.specs.State.{Node, nodes, node_of}
@@ -32,7 +32,7 @@ use Rattle.marks.specs.Hints.{without_range, clear_range_hints}
 use Rattle.marks.specs.Dropping.{drop_range}
 use Rattle.marks.specs.Below.{ClearsBelow}
 use Rattle.marks.proofs.NameLaws.{case_no}
-use Rattle.marks.proofs.BelowLaws.{Either, either_key, either_parent, Child, Partly, partly_start, partly_next}
+use Rattle.marks.proofs.BelowLaws.{Either, either_key, either_parent, Child, Partly, partly_next}
 use Rattle.marks.proofs.BelowLaws.{partly_done, all_cleared}
 
 -- the walk has come to c: the branches of the children with keys below low are cleared, and t₁ is the table that it

@@ -1,4 +1,3 @@
-pub mod Grows
 pub mod Names
 pub mod Hints
 pub mod Dropping

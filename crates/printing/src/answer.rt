@@ -1,7 +1,7 @@
 // What is written.
 use crate::Stop;
 use head::Head;
-use limits::TYPES_ROOM;
+use limits::{Refusal, TYPES_ROOM};
 use report::close_into;
 use spell::Writer;
 use std::io;
@@ -9,10 +9,10 @@ use trace::{LINE_ROOM, LIST_ROOM, put_refused};
 use word::U256;
 
 // "`refused N at S` (number, step from 1, 0 for closing)".
-fn put_refusal(rt: &impl Print, number: u32, step: u32) -> io::Result<()> {
+fn put_refusal(rt: &impl Print, refusal: Refusal, step: u32) -> io::Result<()> {
     let mut line = [0u8; LINE_ROOM];
     let mut w = Writer::new(&mut line);
-    put_refused(&mut w, number, step);
+    put_refused(&mut w, u32::from(refusal), step);
     let n = w.to;
     rt.write_all(&line[..n])
 }
@@ -21,7 +21,7 @@ fn put_refusal(rt: &impl Print, number: u32, step: u32) -> io::Result<()> {
 pub fn put_stop(rt: &impl Print, stop: Stop) -> io::Result<()> {
     match stop {
         Stop::BadInput => println!(rt; "input refused"),
-        Stop::Refused { number, step } => put_refusal(rt, number, step),
+        Stop::Refused { refusal, step } => put_refusal(rt, refusal, step),
     }
 }
 

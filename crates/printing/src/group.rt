@@ -28,10 +28,7 @@ fn put_step(
     let stepped = groups::take_group(head, table, code, bytes).ok_or(Stop::BadInput)?;
     match stepped.answer {
         Ok(()) => Ok(stepped.head),
-        Err(refusal) => Err(Stop::Refused {
-            number: u32::from(refusal),
-            step,
-        }),
+        Err(refusal) => Err(Stop::Refused { refusal, step }),
     }
 }
 

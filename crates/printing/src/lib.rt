@@ -7,6 +7,7 @@ mod answer;
 mod group;
 mod run;
 
+use limits::Refusal;
 pub use run::print_trace;
 use std::io;
 
@@ -16,7 +17,7 @@ enum Stop {
     // The bytes are no trace, or end before it does.
     BadInput,
     // A step, from 1, was refused.
-    Refused { number: u32, step: u32 },
+    Refused { refusal: Refusal, step: u32 },
 }
 
 // An input that can't be read is one that ends.

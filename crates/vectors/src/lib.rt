@@ -56,7 +56,7 @@ pub fn numbers<const K: usize>(bytes: &[u8]) -> [u32; K]
 {
     let mut numbers = [0u32; K];
     let (quads, _) = bytes.as_chunks::<4>();
-    // counted: over `numbers.iter_mut().zip(quads)` the proof of what it returns didn't close, tried once
+    // counted: over `numbers.iter_mut().zip(quads)` the proof of what it returns did not close
     for k in 0..quads.len().min(K) {
         numbers[k] = u32::from_be_bytes(quads[k]);
     }
