@@ -3,10 +3,11 @@ use crate::leaf::Leaf;
 use crate::vector::{code, first_word, flag, leaf, number, second_word};
 use std::fmt::Display;
 use std::io;
+use std::io::Write;
 use word::{Multiplier, U256};
 
 fn put_bool(rt: &impl Print, b: bool) -> io::Result<()> {
-    print!(rt; " {}", if b { "yes" } else { "no" })
+    print!(rt; "{}", if b { " yes" } else { " no" })
 }
 
 fn put_number(rt: &impl Print, n: u32) -> io::Result<()> {
@@ -16,11 +17,14 @@ fn put_number(rt: &impl Print, n: u32) -> io::Result<()> {
 fn put_word(rt: &impl Print, x: U256) -> io::Result<()> {
     let mut numbers = [0u32; 8];
     word::numbers::put_numbers(&mut numbers, 0, x);
-    print!(rt; " ")?;
+    // written at once: the zeros before a number would be a write of their own
+    let mut digits = [0u8; 64];
+    let mut rest: &mut [u8] = &mut digits;
     for n in numbers {
-        print!(rt; "{n:08x}")?;
+        write!(rest, "{n:08x}")?;
     }
-    Ok(())
+    print!(rt; " ")?;
+    rt.write_all(&digits)
 }
 
 // What may not be there.
@@ -31,7 +35,7 @@ fn put_option<T: Display + Drop>(
 ) -> io::Result<()> {
     match value {
         Some(x) => print!(rt; " {x}"),
-        None => print!(rt; " {none}"),
+        None => print!(rt; "{none}"),
     }
 }
 
@@ -59,22 +63,26 @@ pub fn answer(rt: &impl Print, v: &[u8; 192]) -> io::Result<()> {
     let x = first_word(v);
     match leaf {
         Leaf::AndMaskToType => put_number(rt, mask::and_mask_to_type(x)),
-        Leaf::Keep => put_option(rt, word::sum::keep(x), "not kept"),
-        Leaf::AddKept => put_option(rt, word::sum::add_kept(x, n), "not kept"),
+        Leaf::Keep => put_option(rt, word::sum::keep(x), " not kept"),
+        Leaf::AddKept => put_option(rt, word::sum::add_kept(x, n), " not kept"),
         Leaf::Add => put_word(rt, word::sum::add(x, second_word(v))),
         Leaf::PowerOfTwo => put_word(rt, word::power::power_of_two(x)),
         Leaf::ReadMultiplier => put_multiplier(rt, word::multiply::read_multiplier(x)),
         Leaf::IsRangeBound => put_bool(rt, word::range::is_range_bound(x, flag(v))),
-        Leaf::Equal => put_bool(rt, x == second_word(v)),
+        Leaf::Equal => put_bool(rt, word::compare::equal(x, second_word(v))),
         Leaf::IsZero => put_bool(rt, word::compare::is_zero(x)),
         Leaf::IsMax => put_bool(rt, word::compare::is_max(x)),
         Leaf::EqualsNumber => put_bool(rt, word::compare::equals_number(x, u64::from(n))),
         Leaf::BelowNumber => put_bool(rt, word::compare::below_number(x, u64::from(n))),
         Leaf::Opcode => put_opcode(rt, n.to_le_bytes()[0]),
-        Leaf::GuardFailurePc => put_option(rt, code::guard_failure_pc(code(v), n, flag(v)), "none"),
+        Leaf::GuardFailurePc => put_option(
+            rt,
+            code::guard_failure_pc(code(v), n, flag(v)),
+            " none",
+        ),
         Leaf::IsEmptyRevertGuard => put_bool(rt, code::is_empty_revert_guard(code(v), n, flag(v))),
         Leaf::IsDivisionCheck => put_bool(rt, code::is_division_check(code(v), n)),
-        Leaf::DirectWords => put_option(rt, code::direct_min_calldata_words(code(v), n), "none"),
-        Leaf::DenseWords => put_option(rt, code::dense_min_calldata_words(code(v), n, x), "none"),
+        Leaf::DirectWords => put_option(rt, code::direct_min_calldata_words(code(v), n), " none"),
+        Leaf::DenseWords => put_option(rt, code::dense_min_calldata_words(code(v), n, x), " none"),
     }
 }

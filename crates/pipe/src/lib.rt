@@ -3,8 +3,10 @@
 // be written is left.
 #![tactic(auto)]
 
+ghost use Rattle.std.specs.Prelude.{◌≤◌, ◌<◌, IsOk, OnOk, OnErr};
+
 use std::fmt::Display;
-use std::io::{Read, Result, Write};
+use std::io::{Error, ErrorKind, Read, Result, Write};
 
 // The numbers of standard input and output, which `io` reads and writes by.
 const STDIN_FILENO: i32 = 0;
@@ -14,9 +16,26 @@ const STDOUT_FILENO: i32 = 1;
 #[derive(Clone, Copy)]
 pub struct Pipe;
 
+// Was all that was asked for read?
+fn all_of(wanted: usize, read: usize) -> Result<()>
+    ensures ok { OnOk result (wanted ≤ read) }
+    ensures err { OnErr result (read < wanted) }
+{
+    if read < wanted {
+        return Err(Error::from(ErrorKind::UnexpectedEof));
+    }
+    Ok(())
+}
+
 impl Read for Pipe {
     fn read(&mut self, buf: &mut [u8]) -> Result<usize> {
         Ok(io::read_full(STDIN_FILENO, buf))
+    }
+
+    // A short read ends the input. The default would read once more behind it.
+    fn read_exact(&mut self, buf: &mut [u8]) -> Result<()> {
+        let read = io::read_full(STDIN_FILENO, buf);
+        all_of(buf.len(), read)
     }
 }
 
@@ -32,17 +51,26 @@ impl Write for Pipe {
 }
 
 impl Print for Pipe {
-    fn print<D: Display + Drop>(&self, value: D) -> Result<()> {
+    fn print<D: Display + Drop>(&self, value: D) -> Result<()>
+        ensures { IsOk result }
+    {
         let mut out = *self;
-        out.write_fmt(value)
+        // an error is the value's own, since no write has one; what it wrote before stands
+        let _ = out.write_fmt(value);
+        Ok(())
     }
 
-    fn println<D: Display + Drop>(&self, value: D) -> Result<()> {
+    fn println<D: Display + Drop>(&self, value: D) -> Result<()>
+        ensures { IsOk result }
+    {
         let mut out = *self;
-        out.writeln(value)
+        let _ = out.writeln(value);
+        Ok(())
     }
 
-    fn write_all(&self, bytes: &[u8]) -> Result<()> {
+    fn write_all(&self, bytes: &[u8]) -> Result<()>
+        ensures { IsOk result }
+    {
         io::write_all(STDOUT_FILENO, bytes);
         Ok(())
     }

@@ -20,7 +20,7 @@ fn put_refusal(rt: &impl Print, refusal: Refusal, step: u32) -> io::Result<()> {
 // The line for what ended a trace before its closing.
 pub fn put_stop(rt: &impl Print, stop: Stop) -> io::Result<()> {
     match stop {
-        Stop::BadInput => println!(rt; "input refused"),
+        Stop::BadInput => rt.write_all(b"input refused\n"),
         Stop::Refused { refusal, step } => put_refusal(rt, refusal, step),
     }
 }

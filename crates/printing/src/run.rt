@@ -12,7 +12,6 @@ use limits::input::{
     HEADER_FLAG, HEADER_LENGTH, HEADER_PACKED, HEADER_START, HEADER_WIDTH, NUMBER_BYTES,
     TRACE_CODE_MAX, TRACE_NUMBERS,
 };
-use std::io;
 use std::io::Read;
 use trace::{GROUP_ROOM, header_fits, read_numbers};
 use word::U256;
@@ -106,11 +105,11 @@ fn take_trace(
     Ok((header, head))
 }
 
-// Reads one trace and writes its lines.
-pub fn print_trace(rt: &impl Print, input: &mut impl Read) -> io::Result<()> {
+// Reads one trace and writes its lines; what can't be written is left.
+pub fn print_trace(rt: &impl Print, input: &mut impl Read) {
     let mut code = [0u8; TRACE_CODE_MAX];
     let mut table = [0u32; TRACE_NUMBERS];
-    match take_trace(input, &mut code, &mut table) {
+    let _ = match take_trace(input, &mut code, &mut table) {
         Ok((header, head)) => {
             let Header {
                 length,
@@ -120,5 +119,5 @@ pub fn print_trace(rt: &impl Print, input: &mut impl Read) -> io::Result<()> {
             close_trace(rt, head, &mut table, &code[..length], start, packed)
         }
         Err(stop) => put_stop(rt, stop),
-    }
+    };
 }

@@ -27,12 +27,12 @@ fn replay_one(rt: &impl Print, input: &mut impl Read, name: &[u8; 40]) -> io::Re
     let n = read_number(input) as usize;
     // a length past its field counts for none
     if n < name.len() {
-        put_name(rt, name, n)?;
+        put_name(rt, name, n);
     }
     println!(rt; "")?;
     let left = read_number(input);
     let mut trace = Runs::new(input, left);
-    print_trace(rt, &mut trace)?;
+    print_trace(rt, &mut trace);
     trace.skip();
     Ok(())
 }

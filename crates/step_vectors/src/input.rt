@@ -1,4 +1,6 @@
 // What is read from the input. At its end all numbers are zero.
+ghost use Rattle.std.specs.Prelude.{◌≤◌, length};
+
 use head::Head;
 use std::io::Read;
 use vectors::read_number;
@@ -24,14 +26,18 @@ pub fn read_pairs(input: &mut impl Read, out: &mut [u32]) {
 }
 
 // A list into zeros that are long enough.
-pub fn read_list<'a>(input: &mut impl Read, room: &'a mut [u32]) -> &'a mut [u32] {
+pub fn read_list<'a>(input: &mut impl Read, room: &'a mut [u32]) -> &'a mut [u32]
+    ensures { length result.now ≤ length room.old }
+{
     let n = room.len().min(read_number(input) as usize);
     read_pairs(input, room);
     &mut room[..n]
 }
 
 // The code into zeros that are long enough.
-pub fn read_code<'a>(input: &mut impl Read, room: &'a mut [u8]) -> &'a [u8] {
+pub fn read_code<'a>(input: &mut impl Read, room: &'a mut [u8]) -> &'a [u8]
+    ensures { length result.now ≤ length room.old }
+{
     let n = room.len().min(read_number(input) as usize);
     let from = n.min(read_number(input) as usize);
     let given = (n - from).min(read_number(input) as usize);

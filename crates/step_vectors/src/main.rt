@@ -35,7 +35,7 @@ fn run_one(rt: &impl Print, input: &mut impl Read, name: &[u8; 40]) -> io::Resul
     let n = read_number(input) as usize;
     // a length past its field counts for none
     if n < name.len() {
-        put_name(rt, name, n)?;
+        put_name(rt, name, n);
     }
     let length = read_number(input);
     print!(rt; " {length}")?;

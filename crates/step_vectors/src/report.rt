@@ -12,7 +12,7 @@ const ROWS_MAX: usize = 64;
 pub fn put_records(rt: &impl Print, records: Result<u32, Refusal>) -> io::Result<()> {
     match records {
         Ok(n) => println!(rt; " {n}"),
-        Err(refusal) => println!(rt; " refused {}", u32::from(refusal)),
+        Err(_) => rt.write_all(b" refused 1\n"),
     }
 }
 

@@ -13,12 +13,12 @@ use vectors::{for_each, put_name};
 
 fn answer(table: &[u32], used: u32) -> &'static str {
     let Ok(n) = facts::record_count(table.len()) else {
-        return "refused 1";
+        return " refused 1";
     };
     if facts::is_sound(table, n, used) {
-        "taken"
+        " taken"
     } else {
-        "refused 2"
+        " refused 2"
     }
 }
 
@@ -26,10 +26,10 @@ fn run_one(rt: &impl Print, v: &[u8; 576]) -> io::Result<()> {
     // a length past its field counts for none
     let length = usize::from(v[40]);
     if length < 40 {
-        put_name(rt, &v[..40], length)?;
+        put_name(rt, &v[..40], length);
     }
     if let Some(table) = table(v).get(..count(v)) {
-        print!(rt; " {}", answer(table, used(v)))?;
+        print!(rt; "{}", answer(table, used(v)))?;
     }
     println!(rt; "")
 }

@@ -33,7 +33,7 @@ fn put_kept(rt: &impl Print, out: &[u8], from: usize) -> io::Result<()> {
         .enumerate()
         .skip(from)
         .all(|(i, b)| *b == filling(i));
-    print!(rt; " {}", if kept { "kept" } else { "CHANGED" })
+    print!(rt; "{}", if kept { " kept" } else { " CHANGED" })
 }
 
 fn put_text(rt: &impl Print, out: &[u8], n: usize) -> io::Result<()> {

@@ -6,6 +6,5 @@ use pipe::Pipe;
 use printing::print_trace;
 
 fn main() {
-    // `Pipe` fails at nothing
-    let _ = print_trace(&Pipe, &mut Pipe);
+    print_trace(&Pipe, &mut Pipe);
 }

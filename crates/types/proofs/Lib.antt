@@ -6,4 +6,5 @@ pub mod Roots
 pub mod Sizes
 pub mod Unique
 pub mod Nodes
+pub mod Joined
 pub mod Shorts

@@ -4,6 +4,7 @@ use mathlib.Core.Bool.{true}
 use mathlib.Core.List.{List, [], ◌∷◌, head-eq_of_cons-eq, tail-eq_of_cons-eq, nil≢cons}
 use Prim.Native.Nat.{ℕ, ◌+◌, ◌-◌, ◌≤◌}
 use native.Mathlib.Omega.{arith}
+use lib.ListN.{length}
 use Rattle.types.specs.Tree.{AbiType, AbiTypes, nil, cons, count, append, well_formed}
 use Rattle.types.specs.Codes.{codes, Spells}
 use Rattle.types.specs.Kind.{kind_of}
@@ -11,6 +12,7 @@ use Rattle.std.specs.Prelude.{Err}
 use Rattle.types.specs.declared.kind.UnknownCode.{UnknownCode}
 use Rattle.types.proofs.Formed.{head_formed, tail_formed, cons_formed}
 use Rattle.types.proofs.Append.{codes_append, count_append, formed_left, formed_right, formed_both, split}
+use Rattle.types.proofs.Sizes.{count_codes}
 use Rattle.types.specs.Root.{root, parts}
 use Rattle.types.proofs.Roots.{codes_cons, Follows, follows_only, unknown_follows, root_follows, parts_formed}
 use Rattle.types.proofs.Roots.{whole}
@@ -98,13 +100,23 @@ module _ (c k : ℕ) (cs : List ℕ) (follows : Follows c k) where
         },
       )
 
-  -- n types are wanted before c, if after it one type fewer is, and k more
+  -- if n types are wanted before c, after it one type fewer is, and k more
+  pub wanted_step : (n : ℕ) → Wanted n (c ∷ cs) → Wanted (n - 1 + k) cs
+  wanted_step n w =
+      let (us, s) = after w.types w.spells in
+      record { types = us; spells = s.spelt_after; enough = omega arith }
+
+  -- and back
   pub step_wanted : (n : ℕ) → Wanted (n - 1 + k) cs → Wanted n (c ∷ cs)
   step_wanted n w =
       let (ts, s) = before w.types w.spells (omega arith) in
       record { types = ts; spells = s.spelt_before; enough = omega arith }
 
 -- at the end no types are wanted
+pub wanted_none : (n : ℕ) → Wanted n [] → n ≡ 0
+wanted_none n w = omega (arith, count_codes w.types, ap length w.spells.spelt)
+
+-- and there the codes are those of no types
 pub none_wanted : Wanted 0 []
 unfolding codes well_formed
 none_wanted = record { types = nil; spells = record { formed = refl; spelt = refl }; enough = omega arith }

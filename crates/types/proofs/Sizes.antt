@@ -3,11 +3,11 @@ use mathlib.Core.Path.{◌≡◌, refl, ap}
 use Prim.Native.Nat.{ℕ, suc, ◌+◌, ◌≤◌, max}
 use native.Mathlib.Omega.{arith}
 use lib.ListN.{length, length-append}
-use Rattle.types.specs.Tree.{AbiType, AbiTypes, array, tuple, nil, cons, count, append, levels}
+use Rattle.types.specs.Tree.{AbiType, AbiTypes, elementary, array, tuple, nil, cons, count, append, levels}
 use Rattle.types.specs.Tree.{most_levels}
 use Rattle.types.specs.Codes.{codes, all_codes}
 use Rattle.types.specs.Root.{parts}
-use Rattle.types.proofs.Roots.{codes_root}
+use Rattle.types.proofs.Roots.{codes_root, every_type, every_list}
 
 -- a type has one code more than its parts together
 pub codes_length : (t : AbiType) → length (codes t) ≡ suc (length (all_codes (parts t)))
@@ -38,6 +38,42 @@ pub count_codes : (ts : AbiTypes) → count ts ≤ length (all_codes ts)
 unfolding count
 count_codes nil = omega arith
 count_codes (cons t ts) = omega (arith, count_codes ts, codes_some t, cons_length t ts)
+
+-- a type has one level more than the part that has the most
+pub levels_root : (t : AbiType) → levels t ≡ suc (most_levels (parts t))
+unfolding levels parts
+levels_root (elementary e) = refl
+levels_root (array t) = omega arith
+levels_root (tuple ts) = refl
+
+-- a type has a level
+pub levels_some : (t : AbiType) → 1 ≤ levels t
+levels_some t = omega (arith, levels_root t)
+
+abbrev LowType : AbiType → Type 0
+LowType t = levels t ≤ length (codes t)
+
+abbrev LowList : AbiTypes → Type 0
+LowList ts = most_levels ts ≤ length (all_codes ts)
+
+none_low : LowList nil
+unfolding levels
+none_low = omega arith
+
+more_low : (t : AbiType) (ts : AbiTypes) → LowType t → LowList ts → LowList (cons t ts)
+unfolding levels
+more_low t ts p q = omega (arith, cons_length t ts)
+
+whole_low : (t : AbiType) → LowList (parts t) → LowType t
+whole_low t q = omega (arith, levels_root t, codes_length t)
+
+-- a type has no more levels than codes
+pub levels_codes : (t : AbiType) → levels t ≤ length (codes t)
+levels_codes = every_type LowType LowList none_low more_low whole_low
+
+-- nor has any type of a list more levels than the list has codes
+pub most_levels_codes : (ts : AbiTypes) → most_levels ts ≤ length (all_codes ts)
+most_levels_codes = every_list LowType LowList none_low more_low whole_low
 
 -- lists joined have the levels of the one that has more
 pub most_append : (ts us : AbiTypes) → most_levels (append ts us) ≡ max (most_levels ts) (most_levels us)

@@ -8,7 +8,7 @@ use Rattle.types.specs.Tree.{AbiType, AbiTypes, nil, cons, count, well_formed, a
 use Rattle.types.specs.Codes.{codes, all_codes, Spells}
 use Rattle.types.proofs.Formed.{head_formed, tail_formed}
 use Rattle.types.specs.Root.{root, parts}
-use Rattle.types.proofs.Roots.{codes_root, codes_cons, every_type, follows_only, root_follows}
+use Rattle.types.proofs.Roots.{codes_root, codes_cons, every_type, every_list, follows_only, root_follows}
 use Rattle.types.proofs.Roots.{parts_formed, same_type}
 
 -- no other type has the same codes in front
@@ -48,6 +48,10 @@ whole_only t q u xs ys h i e =
 -- codes begin with those of at most one type
 pub codes_prefix : (t : AbiType) → TypeOnly t
 codes_prefix = every_type TypeOnly ListOnly none_only more_only whole_only
+
+-- codes begin with those of at most one list of so many types
+pub all_prefix : (ts : AbiTypes) → ListOnly ts
+all_prefix = every_list TypeOnly ListOnly none_only more_only whole_only
 
 -- a type before others has a code
 cons_some : (t : AbiType) (ts : AbiTypes) → [] ≡ all_codes (cons t ts) → ⊥

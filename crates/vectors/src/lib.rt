@@ -71,7 +71,8 @@ pub fn read_number(input: &mut impl Read) -> u32 {
     }
 }
 
-// Writes a name that stands at the start of its field, or all of the field where the length is past it.
-pub fn put_name(rt: &impl Print, field: &[u8], length: usize) -> io::Result<()> {
-    rt.write_all(field.get(..length).unwrap_or(field))
+// Writes a name that stands at the start of its field, or all of the field where the length is past it; what can't be
+// written is left.
+pub fn put_name(rt: &impl Print, field: &[u8], length: usize) {
+    let _ = rt.write_all(field.get(..length).unwrap_or(field));
 }

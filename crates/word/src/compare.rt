@@ -1,8 +1,14 @@
-// Comparison with zero, with numbers of one limb and with the largest word.
+// Equality, and comparison with zero, with numbers of one limb and with the largest word.
 ghost use Rattle.std.specs.Prelude.{◌≡◌, ◌-◌, ◌^◌, ◌==◌, nat_lt};
 ghost use Rattle.word.specs.Value.{value_of};
 
 use crate::U256;
+
+pub fn equal(x: U256, y: U256) -> bool
+    ensures { result ≡ (value_of x == value_of y) }
+{
+    x == y
+}
 
 pub fn equals_number(x: U256, n: u64) -> bool
     ensures { result ≡ (value_of x == n) }
