@@ -11,7 +11,7 @@ use lib.ListN.{length}
 use borrow.Author.Tests.{eq-eqb, ne_eqb, le-leb, lt-leb, leb-true, leb-false}
 use Rattle.limits.specs.Limits.{depth_max}
 use Rattle.facts.specs.Table.{child_of}
-use Rattle.facts.specs.Links.{In}
+use Rattle.facts.specs.Links.{In, Kid}
 use Rattle.facts.specs.State.{Node, nodes, node_of, kids_in}
 use Rattle.facts.proofs.Encode.{length_nodes}
 use Rattle.paths.specs.Shape.{Shaped}
@@ -235,6 +235,9 @@ module _ {s : List Node} {r depth left rest last : ℕ} {ms : List ℕ} (I : Pay
     paying_seen {x} C p q =
         let z : seen_ones s ms ≡ c ∷ seen_ones s ns = ap (seen_ones s) is ∙ seen_yes s c ns o in
         rw (p, q) (after x (node_of s c).key C.0 C.1 (rw z at I.key))
+
+pub kid_range : {t : List ℕ} {u r c : ℕ} → Kid t u r c → (1 ≤ c) × (c ≤ u)
+kid_range K = (let a = K.above in omega arith, K.used)
 
 -- numbers of a table's records
 module _ (t : List ℕ) (u : ℕ) where

@@ -1,5 +1,5 @@
 // "A node costs one more than its last word": the cost of each seen record is taken off what is left, children first.
-ghost use Rattle.std.specs.Prelude.{◌≡◌, ◌≤◌, suc, true, IfSome};
+ghost use Rattle.std.specs.Prelude.{◌≡◌, ◌≤◌, ◌==◌, suc, true, IfSome};
 ghost use Rattle.limits.specs.Limits.{depth_max};
 ghost use Rattle.facts.specs.State.{node_of};
 ghost use Rattle.facts.specs.Sound.{Sound};
@@ -23,9 +23,19 @@ fn own_left(left: u32, last: u32) -> Option<u32>
     Some(left - last - 1)
 }
 
+// "Facts are the seen records": is the record one, whatever its name?
+fn is_fact(facts: &Facts, c: u32) -> bool
+    requires { (1 ≤ c) × (c ≤ facts.now.used) }
+    ensures { result ≡ ((node_of (facts_of facts.now) c).seen == 1) }
+{
+    facts.is_seen(c)
+}
+
 // What is left after a seen record, which stands at this depth, and all below it, unless that is too deep or costs too
 // much. The walk calls itself for each seen child; one with no child of its own costs its last word and one, which is
-// taken off at once. A child's number is higher than its parent's, so that fewer numbers are left above it.
+// taken off at once. A child's number is higher than its parent's, so that fewer numbers are left above it. A child often
+// stands in the chain right behind the number before it: where it does, the walk counts on instead of waiting for the
+// number that it loads.
 fn left_below(facts: &Facts, r: u32, depth: u32, left: u32) -> Option<Below>
     requires le_r { (1 ≤ r) × (r ≤ facts.now.used) × (depth ≤ depth_max) }
     requires seen { (node_of (facts_of facts.now) r).seen ≡ 1 }
@@ -33,17 +43,27 @@ fn left_below(facts: &Facts, r: u32, depth: u32, left: u32) -> Option<Below>
 {
     let mut rest = left;
     let mut last_key: u32 = 0;
-    for c in facts.children(r) {
-        if facts.is_seen(c) {
-            if depth == DEPTH_MAX {
-                return None;
+    let mut child = facts.child(r);
+    while child != 0 {
+        let mut c = child;
+        loop {
+            if is_fact(facts, c) {
+                if depth == DEPTH_MAX {
+                    return None;
+                }
+                rest = if facts.child(c) == 0 {
+                    own_left(rest, last_word(facts, c, 0))?
+                } else {
+                    left_below(facts, c, depth + 1, rest)?.left
+                };
+                last_key = facts.key(c);
             }
-            rest = if facts.child(c) == 0 {
-                own_left(rest, last_word(facts, c, 0))?
-            } else {
-                left_below(facts, c, depth + 1, rest)?.left
-            };
-            last_key = facts.key(c);
+            let follow = c as usize + 1;
+            child = facts.next(c);
+            if child as usize != follow {
+                break;
+            }
+            c = follow as u32;
         }
     }
     let last_word = last_word(facts, r, last_key);

@@ -15,7 +15,7 @@ use Rattle.head.specs.Held.{Held, held, records_in, state_in, holding}
 use Rattle.head.specs.Asked.{first_no}
 use Rattle.head.specs.Admitting.{Admits}
 use Rattle.head.proofs.Asking.{sound_asked, admitted_sound}
-use Rattle.paths.specs.declared.lent.Facts.{Facts}
+use Rattle.paths.specs.declared.lent.FactsMut.{FactsMut}
 use Rattle.paths.specs.Lent.{Grows}
 use Rattle.paths.proofs.Frame.{shaped_encode}
 use Rattle.paths.proofs.Sounds.{held_sound}
@@ -77,7 +77,7 @@ module _ (N : ℕ) (head : Head) (table types : List ℕ) (h : Handed) (A : Admi
       pub room_left : m ≤ N - head.used → head.used + fill_missing s w ≤ N
       room_left g = let u = S.most in omega arith
 
-      module _ (g : m ≤ N - head.used) (f f' : Facts) (H : Grows f f' (fill s w)) (n : f.records ≡ N) where
+      module _ (g : m ≤ N - head.used) (f f' : FactsMut) (H : Grows f f' (fill s w)) (n : f.records ≡ N) where
         abbrev t' : List ℕ
         t' = f'.table.now
 

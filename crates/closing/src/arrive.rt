@@ -10,7 +10,7 @@ use crate::{Closed, Closing};
 use head::{Head, records_of};
 use kinds::{fill, fill_missing};
 use limits::{CODE_MAX, Refusal, TYPES_ROOM};
-use paths::Facts;
+use paths::{Facts, FactsMut};
 use word::U256;
 
 // Questions 1, 2, 3, 9 and 8, the fill, and the answer. Nothing is written before the last question.
@@ -33,18 +33,24 @@ fn judge(
     if types.len() < TYPES_ROOM {
         return Err(Refusal::ShortTypes);
     }
-    let mut facts = Facts {
+    let used = head.used;
+    let read = Facts {
         table,
         records,
-        used: head.used,
+        used,
     };
-    let words = fill_words(&facts, code, start, packed);
-    if records - facts.used < fill_missing(&facts, words) {
+    let words = fill_words(&read, code, start, packed);
+    if records - used < fill_missing(&read, words) {
         return Err(Refusal::NoRoom);
     }
+    let mut facts = FactsMut {
+        table,
+        records,
+        used,
+    };
     fill(&mut facts, words);
     head.used = facts.used;
-    Ok(answer(&facts, types))
+    Ok(answer(&facts.read(), types))
 }
 
 // Closes, or refuses by the first question that is answered with no.

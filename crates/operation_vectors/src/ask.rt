@@ -9,8 +9,8 @@ pub fn ask(facts: &Facts, question: Question, child: Child) -> Answer {
         return Answer::Skipped;
     }
     match question {
-        Question::FindChild => Answer::Number(facts.find_child(parent, key).unwrap_or(0)),
-        Question::Missing => Answer::Number(facts.missing(parent, key)),
+        Question::FindChild => Answer::Number(facts.links().find_child(parent, key).unwrap_or(0)),
+        Question::Missing => Answer::Number(facts.links().missing(parent, key)),
         Question::HasRangeHint => Answer::Truth(marks::has_range_hint(facts, parent, key)),
     }
 }

@@ -1,26 +1,28 @@
 // Changes of a path that is there or may be added.
 ghost use Rattle.std.specs.Prelude.{◌≡◌, ◌≤◌, ◌<◌};
 ghost use Rattle.paths.specs.Find.{find_in};
-ghost use Rattle.paths.specs.Lent.{facts_of};
+ghost use Rattle.paths.specs.Lent.{facts_in, IsSameTable};
 
 use crate::answer::Answer;
 use crate::operation::{Change, Child};
-use paths::Facts;
+use paths::FactsMut;
 
-fn insert(facts: &mut Facts, p: u32, k: u32) -> Answer
+fn insert(facts: &mut FactsMut, p: u32, k: u32) -> Answer
     requires le_p { (1 ≤ p) × (p ≤ facts.old.used) }
-    requires room { find_in (facts_of facts.old) p k ≡ 0 → facts.old.used < facts.old.records }
+    requires room { find_in (facts_in facts.old) p k ≡ 0 → facts.old.used < facts.old.records }
+    ensures { IsSameTable facts.old facts.new }
 {
-    match facts.find_child(p, k) {
+    match facts.links().find_child(p, k) {
         Some(_) => Answer::Skipped,
         None => Answer::Number(facts.insert_child(p, k)),
     }
 }
 
 // The change, where there is room for the path.
-fn make(facts: &mut Facts, change: Change, p: u32, k: u32) -> Answer
+fn make(facts: &mut FactsMut, change: Change, p: u32, k: u32) -> Answer
     requires le_p { (1 ≤ p) × (p ≤ facts.old.used) }
-    requires room { find_in (facts_of facts.old) p k ≡ 0 → facts.old.used < facts.old.records }
+    requires room { find_in (facts_in facts.old) p k ≡ 0 → facts.old.used < facts.old.records }
+    ensures { IsSameTable facts.old facts.new }
 {
     match change {
         Change::InsertChild => return insert(facts, p, k),
@@ -33,12 +35,14 @@ fn make(facts: &mut Facts, change: Change, p: u32, k: u32) -> Answer
     Answer::Done
 }
 
-pub fn change(facts: &mut Facts, change: Change, child: Child) -> Answer {
+pub fn change(facts: &mut FactsMut, change: Change, child: Child) -> Answer
+    ensures { IsSameTable facts.old facts.new }
+{
     let Child { parent, key } = child;
     if parent < 1 || facts.used < parent {
         return Answer::Skipped;
     }
-    if facts.records - facts.used < facts.missing(parent, key) {
+    if facts.records - facts.used < facts.links().missing(parent, key) {
         return Answer::Skipped;
     }
     make(facts, change, parent, key)

@@ -11,10 +11,10 @@ pub fn tell(rt: &impl Print, facts: &Facts) -> io::Result<()> {
         Ok(records) => facts::is_sound(facts.table, records, facts.used),
         Err(_) => false,
     };
-    println!(rt;
-        "; used {} {}",
+    print!(rt;
+        "; used {}{}",
         facts.used,
-        if sound { "sound" } else { "unsound" }
+        if sound { " sound\n" } else { " unsound\n" }
     )
 }
 

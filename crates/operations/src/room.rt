@@ -31,7 +31,7 @@ fn lack(facts: &Facts, made: Option<FullPath>, counted: bool) -> u32
     ensures { (result ≡ cond counted 0 (lacks (facts_of facts.now) made)) × (result ≤ 1) }
 {
     match made {
-        Some(made) if !counted => facts.missing(made.path, made.offset),
+        Some(made) if !counted => facts.links().missing(made.path, made.offset),
         _ => 0,
     }
 }

@@ -3,7 +3,6 @@ pub mod Walk
 pub mod Tail
 pub mod Chaining
 pub mod Climbing
-pub mod Behind
 pub mod Spotting
 mod Growth
 pub mod Finds

@@ -1,5 +1,5 @@
 -- The walk that looks for a key's place.
-use Rattle.std.proofs.Common.{◌≡◌, ℕ, ◌+◌, ◌<◌, ◌≤◌, List, refl, ⊎_elim, arith}
+use Rattle.std.proofs.Common.{◌≡◌, ℕ, zero, suc, ◌+◌, ◌-◌, ◌<◌, ◌≤◌, List, refl, ⊎_elim, arith}
 use native.Mathlib.Decide.{ℕ_discrete}
 use Rattle.facts.specs.Table.{key_of, child_of, next_of}
 use Rattle.facts.specs.Links.{Kid}
@@ -69,6 +69,20 @@ module _ (t : List ℕ) (u p k prev c : ℕ) (Q : Place t u p k prev c) where
     kid = λ y. absurd (y refl);
     key = λ y. absurd (y refl);
   }
+
+-- how many keys below k are higher than that of prev, 0 for none: a walk that looks for k has them before it
+abbrev pub keys_left : (t : List ℕ) (k prev : ℕ) → ℕ
+keys_left t k zero = k
+keys_left t k (suc p) = k - (key_of t (suc p) + 1)
+
+pub keys_fewer : (t : List ℕ) (u p k prev c : ℕ) → Spotting t u p k prev c → (c ≡ 0 → ⊥) → key_of t c < k
+    → keys_left t k c < keys_left t k prev
+keys_fewer t u p k prev zero S n lt = absurd (n refl)
+keys_fewer t u p k zero (suc c) S n lt = omega arith
+keys_fewer t u p k (suc q) (suc c) S n lt =
+    let e = S.prev_low (λ z. absurd (omega arith)) in
+    let f = S.at.first.from n in
+    omega arith
 
 pub before_none : (t : List ℕ) (u p k : ℕ) → Before t u p k 0
 before_none t u p k = record { kid = λ n. absurd (n refl); below = λ n. absurd (n refl) }

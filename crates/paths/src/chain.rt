@@ -1,50 +1,49 @@
 // A chain of children.
 ghost use Rattle.std.specs.Prelude.{◌≡◌, ◌≤◌, ◌≢◌};
 ghost use Rattle.facts.specs.Links.{Kid};
+ghost use Rattle.facts.specs.State.{kids_in};
 
-use crate::Facts;
+use crate::{Facts, Links};
 
 // Gives the children of a path, which form a chain, seen or not, by rising key. next is 0 behind the last.
 #[derive(Drop)]
-pub struct Chain<'f, 'a> {
-    facts: &'f Facts<'a>,
+pub struct Chain<'a> {
+    links: Links<'a>,
     parent: u32,
     next: u32,
-    ghost range: { (1 ≤ parent) × (parent ≤ facts.now.used) },
-    ghost kid: { (next ≢ 0) → Kid facts.now.table.now facts.now.used parent next },
+    ghost range: { (1 ≤ parent) × (parent ≤ links.used) },
+    ghost kid: { (next ≢ 0) → Kid links.table.now links.used parent next },
 }
 
-impl Facts<'_> {
-    ghost use Rattle.facts.specs.Table.{child_of, next_of};
-    ghost use Rattle.facts.specs.State.{kids_in};
-    ghost use Rattle.paths.specs.Lent.{facts_of};
-    ghost use Rattle.paths.specs.Walking.{from_on, chain_left};
+impl<'a> Links<'a> {
+    ghost use Rattle.facts.specs.State.{nodes};
+    ghost use Rattle.paths.specs.Walking.{chain_left};
 
-    pub fn children(&self, r: u32) -> Chain<'_, '_>
+    pub fn children(&self, r: u32) -> Chain<'a>
         requires { (1 ≤ r) × (r ≤ self.now.used) }
-        ensures { chain_left result ≡ kids_in (facts_of self.now) r }
-    {
-        self.children_behind(r, 0)
-    }
-
-    // Those behind the child prev, all of them for 0.
-    pub(crate) fn children_behind(&self, parent: u32, prev: u32) -> Chain<'_, '_>
-        requires le_parent { (1 ≤ parent) × (parent ≤ self.now.used) }
-        requires kid { (prev ≢ 0) → Kid self.now.table.now self.now.used parent prev }
-        ensures { (prev ≡ 0 → chain_left result
-            ≡ from_on (child_of self.now.table.now parent) (kids_in (facts_of self.now) parent))
-            × ((prev ≢ 0) → chain_left result
-            ≡ from_on (next_of self.now.table.now prev) (kids_in (facts_of self.now) parent)) }
+        ensures { chain_left result ≡ kids_in (nodes self.now.table.now self.now.used) r }
     {
         Chain {
-            facts: self,
-            parent,
-            next: self.behind(parent, prev),
+            links: *self,
+            parent: r,
+            next: self.child(r),
         }
     }
 }
 
-impl Iterator for Chain<'_, '_> {
+impl<'a> Facts<'a> {
+    ghost use Rattle.paths.specs.Lent.{facts_of};
+    ghost use Rattle.paths.specs.Walking.{chain_left};
+
+    pub fn children(&self, r: u32) -> Chain<'a>
+        requires { (1 ≤ r) × (r ≤ self.now.used) }
+        ensures { chain_left result ≡ kids_in (facts_of self.now) r }
+    {
+        self.links().children(r)
+    }
+}
+
+impl Iterator for Chain<'_> {
     ghost use Rattle.std.specs.Iterator.{YieldsFirst, item_count};
     ghost use Rattle.paths.specs.Walking.{chain_left};
 
@@ -59,7 +58,7 @@ impl Iterator for Chain<'_, '_> {
             return None;
         }
         let c = self.next;
-        self.next = self.facts.next(c);
+        self.next = self.links.next(c);
         Some(c)
     }
 }

@@ -7,7 +7,7 @@ ghost use Rattle.paths.specs.Find.{find_in};
 ghost use Rattle.paths.specs.Place.{Before, Place};
 ghost use Rattle.paths.specs.Represents.{Represents};
 
-use crate::Facts;
+use crate::{FactsMut, Links};
 use facts::set_field;
 use limits::fields::{CHILD, KEY, NEXT, PARENT};
 
@@ -40,22 +40,31 @@ fn link_in(table: &mut [u32], n: u32, used: u32, parent: u32, key: u32, spot: Sp
     new
 }
 
-impl Facts<'_> {
-    ghost use Rattle.paths.specs.Lent.{facts_of, Grows};
-
+impl Links<'_> {
     // Where a key stands or goes among the children of parent, looked for behind one with a lower key, or from the
-    // first on for 0.
+    // first on for 0. A record often stands in the chain right behind the number before it: where it does, the walk
+    // counts on instead of waiting for the number that it loads.
     fn place_behind(&self, parent: u32, key: u32, after: u32) -> Spot
         requires le_parent { (1 ≤ parent) × (parent ≤ self.now.used) }
         requires before { Before self.now.table.now self.now.used parent key after }
         ensures { Place self.now.table.now self.now.used parent key result.prev result.next }
     {
         let mut prev = after;
-        for c in self.children_behind(parent, after) {
-            if key <= self.field(c, KEY) {
-                return Spot { prev, next: c };
+        let mut next = self.behind(parent, after);
+        while next != 0 {
+            let mut c = next;
+            loop {
+                if key <= self.field(c, KEY) {
+                    return Spot { prev, next: c };
+                }
+                prev = c;
+                let follow = c as usize + 1;
+                next = self.next(c);
+                if next as usize != follow {
+                    break;
+                }
+                c = follow as u32;
             }
-            prev = c;
         }
         Spot { prev, next: 0 }
     }
@@ -76,9 +85,9 @@ impl Facts<'_> {
 
     // The child of parent with that key, if it stands at its place.
     pub fn find_at(&self, parent: u32, key: u32, spot: Spot) -> Option<u32>
-        requires le_parent { (1 ≤ parent) × (parent ≤ self.now.used) }
+        requires le_parent { 1 ≤ parent }
         requires place { Place self.now.table.now self.now.used parent key spot.prev spot.next }
-        ensures value { unwrap_or result 0 ≡ find_in (facts_of self.now) parent key }
+        ensures value { unwrap_or result 0 ≡ find_in (nodes self.now.table.now self.now.used) parent key }
         ensures used { IfSome result (λ c. (1 ≤ c) × (c ≤ self.now.used)) }
     {
         if spot.next == 0 {
@@ -89,14 +98,18 @@ impl Facts<'_> {
         }
         Some(spot.next)
     }
+}
+
+impl FactsMut<'_> {
+    ghost use Rattle.paths.specs.Lent.{facts_in, Grows};
 
     // Adds a child with that key to parent at its place, as the next record, and returns its number.
     pub fn insert_at(&mut self, parent: u32, key: u32, spot: Spot) -> u32
         requires le_parent { (1 ≤ parent) × (parent ≤ self.old.used) × (self.old.used < self.old.records) }
-        requires key_value { find_in (facts_of self.old) parent key ≡ 0 }
+        requires key_value { find_in (facts_in self.old) parent key ≡ 0 }
         requires place { Place self.old.table.now self.old.used parent key spot.prev spot.next }
         ensures value { (result ≡ self.old.used + 1) × (self.new.used ≡ self.old.used + 1) }
-        ensures grows { Grows self.old self.new (facts_of self.old ++ bare parent key ∷ []) }
+        ensures grows { Grows self.old self.new (facts_in self.old ++ bare parent key ∷ []) }
     {
         let new = link_in(self.table, self.records, self.used, parent, key, spot);
         self.used = new;
@@ -106,11 +119,11 @@ impl Facts<'_> {
     // The same, where the place is still to be found.
     pub fn insert_child(&mut self, parent: u32, key: u32) -> u32
         requires le_parent { (1 ≤ parent) × (parent ≤ self.old.used) × (self.old.used < self.old.records) }
-        requires key_value { find_in (facts_of self.old) parent key ≡ 0 }
+        requires key_value { find_in (facts_in self.old) parent key ≡ 0 }
         ensures value { (result ≡ self.old.used + 1) × (self.new.used ≡ self.old.used + 1) }
-        ensures grows { Grows self.old self.new (facts_of self.old ++ bare parent key ∷ []) }
+        ensures grows { Grows self.old self.new (facts_in self.old ++ bare parent key ∷ []) }
     {
-        let spot = self.place(parent, key, 0);
+        let spot = self.links().place(parent, key, 0);
         self.insert_at(parent, key, spot)
     }
 }

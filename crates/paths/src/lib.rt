@@ -6,6 +6,7 @@ mod depth;
 mod find;
 mod insert;
 mod lent;
+mod links;
 mod make;
 mod near;
 mod node;
@@ -14,5 +15,6 @@ mod upward;
 
 pub use chain::Chain;
 pub use insert::Spot;
-pub use lent::Facts;
+pub use lent::{Facts, FactsMut};
+pub use links::Links;
 pub use upward::Upward;

@@ -4,8 +4,8 @@ ghost use Rattle.facts.specs.Table.{child_of, next_of};
 ghost use Rattle.facts.specs.Links.{Kid};
 ghost use Rattle.paths.specs.Place.{Before};
 
-use crate::Facts;
-use limits::fields::{CHILD, KEY, NEXT, PARENT};
+use crate::Links;
+use limits::fields::{KEY, PARENT};
 use std::num::wrapping_sub_u32;
 
 // In a table of so few records a walk is short, however its chain jumps about.
@@ -36,7 +36,7 @@ fn ahead_with(ahead: u32, prev: u32, next: u32) -> u32
     ahead.saturating_sub(1)
 }
 
-impl Facts<'_> {
+impl Links<'_> {
     // The child of parent behind prev, the first one for 0.
     pub(crate) fn behind(&self, parent: u32, prev: u32) -> u32
         requires le_parent { (1 ≤ parent) × (parent ≤ self.now.used) }
@@ -45,9 +45,9 @@ impl Facts<'_> {
             × ((prev ≢ 0) → result ≡ next_of self.now.table.now prev) }
     {
         if prev == 0 {
-            return self.field(parent, CHILD);
+            return self.child(parent);
         }
-        self.field(prev, NEXT)
+        self.next(prev)
     }
 
     // The record r, if it is a child of parent and its key is neither too low nor as high as the one that is looked

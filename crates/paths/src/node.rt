@@ -3,7 +3,7 @@ ghost use Rattle.std.specs.Prelude.{◌≡◌, ◌<◌, ◌≤◌, ◌==◌};
 ghost use Rattle.facts.specs.Table.{fld, child_of, next_of};
 ghost use Rattle.facts.specs.State.{node_of};
 
-use crate::Facts;
+use crate::{Facts, FactsMut};
 use facts::{field, set_field};
 use limits::fields::{
     BLOCKED, CHILD, CONFIDENCE, COUNT, KEY, KIND, NAME, NEXT, NOT_BOOL, PARENT, SEEN,
@@ -11,9 +11,7 @@ use limits::fields::{
 
 impl Facts<'_> {
     ghost use Rattle.limits.specs.Limits.{record_width};
-    ghost use Rattle.limits.specs.Fields as field;
-    ghost use Rattle.paths.specs.Update.{update};
-    ghost use Rattle.paths.specs.Lent.{facts_of, Becomes};
+    ghost use Rattle.paths.specs.Lent.{facts_of};
 
     // Field f of record r.
     pub fn field(&self, r: u32, f: usize) -> u32
@@ -21,14 +19,6 @@ impl Facts<'_> {
         ensures { result ≡ fld self.now.table.now r f }
     {
         field(self.table, r, f)
-    }
-
-    // Stores v at field f, which is no link, of record r.
-    pub fn store(&mut self, r: u32, f: usize, v: u32)
-        requires { (1 ≤ r) × (r ≤ self.old.used) × (field.seen ≤ f) × (f < record_width) }
-        ensures { Becomes self.old self.new (update (facts_of self.old) r f v) }
-    {
-        set_field(self.table, r, f, v);
     }
 
     // The first child of record r, 0 for none.
@@ -108,5 +98,20 @@ impl Facts<'_> {
         ensures { result ≡ (node_of (facts_of self.now) r).blocked }
     {
         self.field(r, BLOCKED)
+    }
+}
+
+impl FactsMut<'_> {
+    ghost use Rattle.limits.specs.Limits.{record_width};
+    ghost use Rattle.limits.specs.Fields as field;
+    ghost use Rattle.paths.specs.Update.{update};
+    ghost use Rattle.paths.specs.Lent.{facts_in, Becomes};
+
+    // Stores v at field f, which is no link, of record r.
+    pub fn store(&mut self, r: u32, f: usize, v: u32)
+        requires { (1 ≤ r) × (r ≤ self.old.used) × (field.seen ≤ f) × (f < record_width) }
+        ensures { Becomes self.old self.new (update (facts_in self.old) r f v) }
+    {
+        set_field(self.table, r, f, v);
     }
 }

@@ -5,29 +5,29 @@ use crate::Facts;
 
 // Gives a record and each that its path continues, up to the root. next is 0 behind the root.
 #[derive(Drop)]
-pub struct Upward<'f, 'a> {
-    facts: &'f Facts<'a>,
+pub struct Upward<'a> {
+    facts: Facts<'a>,
     next: u32,
-    ghost within: { next ≤ facts.now.used },
+    ghost within: { next ≤ facts.used },
 }
 
-impl Facts<'_> {
+impl<'a> Facts<'a> {
     ghost use Rattle.std.specs.Prelude.{◌≡◌};
     ghost use Rattle.paths.specs.Lent.{facts_of};
     ghost use Rattle.paths.specs.Walking.{upward, upward_left};
 
-    pub fn upward(&self, r: u32) -> Upward<'_, '_>
+    pub fn upward(&self, r: u32) -> Upward<'a>
         requires { r ≤ self.now.used }
         ensures { upward_left result ≡ upward (facts_of self.now) r }
     {
         Upward {
-            facts: self,
+            facts: *self,
             next: r,
         }
     }
 }
 
-impl Iterator for Upward<'_, '_> {
+impl Iterator for Upward<'_> {
     ghost use Rattle.std.specs.Iterator.{YieldsFirst, item_count};
     ghost use Rattle.paths.specs.Walking.{upward_left};
 

@@ -11,8 +11,8 @@ use borrow.Author.Tests.{leb-true}
 use Rattle.limits.specs.Layout.{slot_width, entry_width, step_op, step_pick}
 use Rattle.facts.specs.State.{Node, nodes, encode}
 use Rattle.facts.proofs.Encode.{length_nodes}
-use Rattle.paths.specs.declared.lent.Facts.{Facts}
-use Rattle.paths.specs.Lent.{facts_of, Grows}
+use Rattle.paths.specs.declared.lent.FactsMut.{FactsMut}
+use Rattle.paths.specs.Lent.{facts_in, Grows}
 use Rattle.paths.proofs.Frame.{shaped_encode}
 use Rattle.opcode.specs.Lists.{listed, slot_needers}
 use Rattle.labels.specs.Step.{step_of}
@@ -111,11 +111,11 @@ module _ (N : ℕ) (head : Head) (table stack memory bytes x : List ℕ) (p : Pl
   fits_after = let h = leb-true (length after.state) (records_in (held head table)) A.room in let e = A.passed.admitted.is in omega arith
 
   -- the hints cleared
-  module _ (f f₁ : Facts) (H : Grows f f₁ (run_all state (hint_operations p.hints))) (records_are : f.records ≡ N) where
+  module _ (f f₁ : FactsMut) (H : Grows f f₁ (run_all state (hint_operations p.hints))) (records_are : f.records ≡ N) where
     used_same : f₁.used ≡ head.used
     used_same = sym (length_nodes f₁.table.now f₁.used) ∙ ap (λ (s : List Node). length s) H.state ∙ cleared_size
 
-    state_is : facts_of f₁ ≡ cleared
+    state_is : facts_in f₁ ≡ cleared
     state_is = H.state ∙ cleared_is
 
     pub plan_reach : PlanReaches f₁.used p.plan
@@ -123,7 +123,7 @@ module _ (N : ℕ) (head : Head) (table stack memory bytes x : List ℕ) (p : Pl
         subst (λ (u : ℕ). PlanReaches u p.plan) (sym used_same)
         (subst (PlanReaches head.used) (sym A.plan) (passed_plan N head table stack memory bytes x A.passed))
 
-    pub plan_room : length (run_all (facts_of f₁) (operations p.plan)) ≤ f₁.records
+    pub plan_room : length (run_all (facts_in f₁) (operations p.plan)) ≤ f₁.records
     plan_room =
         let e = ap (λ (s : List Node). length (run_all s (operations p.plan))) state_is in
         let g = ap (λ (s : List Node). length s) facts_after in
@@ -149,7 +149,7 @@ module _ (N : ℕ) (head : Head) (table stack memory bytes x : List ℕ) (p : Pl
         memory_fits p.plan.memory memory (step_of x).pick
         (subst (λ (q : Plan). Picks (step_of x).pick q.memory) (sym A.plan) k) (omega arith)
 
-    module _ (f₂ : Facts) (r : Ran) (Q : RanPlan f₁ f₂ p.plan r) where
+    module _ (f₂ : FactsMut) (r : Ran) (Q : RanPlan f₁ f₂ p.plan r) where
       abbrev left : Machine
       left = run_plan cleared p.plan stack memory
 
@@ -158,7 +158,7 @@ module _ (N : ℕ) (head : Head) (table stack memory bytes x : List ℕ) (p : Pl
       unfolding analyze
       left_is = ap (λ (q : Plan). run_plan cleared q stack memory) (A.plan ∙ sym (hinted_plan state active bytes (step_of x)))
 
-      facts_left : facts_of f₂ ≡ left.state
+      facts_left : facts_in f₂ ≡ left.state
       unfolding run_plan
       facts_left = Q.grows.state ∙ ap (λ (s : List Node). run_all s (operations p.plan)) state_is
 
@@ -189,7 +189,7 @@ module _ (N : ℕ) (head : Head) (table stack memory bytes x : List ℕ) (p : Pl
           memory = (memory_left ∙ ap (λ (m : Machine). m.memory) left_is) i;
         }
           where
-            k : facts_of f₂ ≡ after.state
+            k : facts_in f₂ ≡ after.state
             k = facts_left ∙ ap (λ (m : Machine). m.state) left_is
 
             u : f₂.used ≡ length after.state

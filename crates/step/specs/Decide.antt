@@ -6,7 +6,8 @@ use Rattle.limits.specs.Layout.{slot_width, entry_width, step_op}
 use Rattle.limits.specs.Refusal.{number_of}
 use Rattle.limits.specs.declared.refusal.Refusal.{Refusal}
 use Rattle.paths.specs.declared.lent.Facts.{Facts}
-use Rattle.paths.specs.Lent.{facts_of, Grows}
+use Rattle.paths.specs.declared.lent.FactsMut.{FactsMut}
+use Rattle.paths.specs.Lent.{facts_in, Grows}
 use Rattle.labels.specs.Step.{step_of}
 use Rattle.operations.specs.declared.Operation.{Operation}
 use Rattle.operations.specs.Run.{run, run_all}
@@ -28,16 +29,16 @@ use Rattle.step.specs.Questions.{sizes_fit, labels_fit, fields_fit, slot_there, 
 use Rattle.step.specs.Call.{Lent, lend, machine_of, is_active, Outcome}
 
 -- the first operation was run, and the path that it makes dynamic is known
-pub record RanFirst (old new : Facts) (o : Operation) (path : ℕ) : Type 0 where
-  pub grows : Grows old new (run (facts_of old) o)
-  pub path_is : path ≡ loaded_path (facts_of old) o
+pub record RanFirst (old new : FactsMut) (o : Operation) (path : ℕ) : Type 0 where
+  pub grows : Grows old new (run (facts_in old) o)
+  pub path_is : path ≡ loaded_path (facts_in old) o
   pub within : path ≤ new.used
 
 -- a plan was run
-pub record RanPlan (old new : Facts) (p : Plan) (r : Ran) : Type 0 where
-  pub grows : Grows old new (run_all (facts_of old) (operations p))
-  pub path : r.path ≡ loaded_path (facts_of old) p.first
-  pub array : r.array ≡ is_array (run_all (facts_of old) (operations p)) r.path
+pub record RanPlan (old new : FactsMut) (p : Plan) (r : Ran) : Type 0 where
+  pub grows : Grows old new (run_all (facts_in old) (operations p))
+  pub path : r.path ≡ loaded_path (facts_in old) p.first
+  pub array : r.array ≡ is_array (run_all (facts_in old) (operations p)) r.path
 
 -- the facts of a lent table, as what goes along with a call
 abbrev pub held_facts : Facts → ℕ → Held

@@ -10,7 +10,7 @@ use crate::running::{run_hints, run_plan};
 use crate::writing::{write_memory, write_stack};
 use head::{Head, records_of};
 use limits::Refusal;
-use paths::Facts;
+use paths::{Facts, FactsMut};
 
 // The head after a step that is taken: the table is written first, then the stack, then the memory.
 fn take(
@@ -26,13 +26,19 @@ fn take(
         (lend (held (head_after head result) table.new) stack.new memory.new) }
 {
     let records = records_of(head, table)?;
-    let mut facts = Facts {
+    let used = head.used;
+    let read = Facts {
         table,
         records,
-        used: head.used,
+        used,
     };
-    let planned = decide(&facts, head.active, code, stack, memory, numbers)?;
+    let planned = decide(&read, head.active, code, stack, memory, numbers)?;
     let plan = planned.plan;
+    let mut facts = FactsMut {
+        table,
+        records,
+        used,
+    };
     run_hints(&mut facts, planned.hints);
     let ran = run_plan(&mut facts, plan);
     write_stack(stack, plan.stack, ran);

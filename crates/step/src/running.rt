@@ -1,6 +1,6 @@
 // A plan run on the facts.
 ghost use Rattle.std.specs.Prelude.{◌≡◌, ◌≤◌, length};
-ghost use Rattle.paths.specs.Lent.{facts_of, Grows};
+ghost use Rattle.paths.specs.Lent.{facts_of, facts_in, Grows};
 ghost use Rattle.operations.specs.Run.{run, run_all};
 ghost use Rattle.operations.specs.Asks.{Reaches};
 ghost use Rattle.analyze.specs.Plan.{hint_operations, operations, is_array};
@@ -11,23 +11,23 @@ use crate::Ran;
 use analyze::{Hints, Plan};
 use limits::KIND_ARRAY;
 use operations::{Operation, make_dynamic, run};
-use paths::Facts;
+use paths::{Facts, FactsMut};
 
 // Clears the hints.
 #[tactic(auto, unfolding(operations::specs::Run::run_all))]
-pub fn run_hints(facts: &mut Facts, hints: Hints)
+pub fn run_hints(facts: &mut FactsMut, hints: Hints)
     requires reach { HintsReach facts.old.used hints }
-    requires room { length (run_all (facts_of facts.old) (hint_operations hints)) ≤ facts.old.records }
-    ensures { Grows facts.old facts.new (run_all (facts_of facts.old) (hint_operations hints)) }
+    requires room { length (run_all (facts_in facts.old) (hint_operations hints)) ≤ facts.old.records }
+    ensures { Grows facts.old facts.new (run_all (facts_in facts.old) (hint_operations hints)) }
 {
     run(facts, hints.first);
     run(facts, hints.second);
 }
 
 // Runs the first operation of a plan. Answers the path that it makes dynamic, 0 for none.
-fn run_first(facts: &mut Facts, operation: Operation) -> u32
+fn run_first(facts: &mut FactsMut, operation: Operation) -> u32
     requires reach { Reaches facts.old.used operation }
-    requires room { length (run (facts_of facts.old) operation) ≤ facts.old.records }
+    requires room { length (run (facts_in facts.old) operation) ≤ facts.old.records }
     ensures { RanFirst facts.old facts.new operation result }
 {
     let Operation::SetDynamic(path, offset, count) = operation else {
@@ -47,14 +47,14 @@ fn is_array(facts: &Facts, r: u32) -> bool
 
 // Runs the operations of a plan, in order.
 #[tactic(auto, unfolding(operations::specs::Run::run_all))]
-pub fn run_plan(facts: &mut Facts, plan: Plan) -> Ran
+pub fn run_plan(facts: &mut FactsMut, plan: Plan) -> Ran
     requires reach { PlanReaches facts.old.used plan }
-    requires room { length (run_all (facts_of facts.old) (operations plan)) ≤ facts.old.records }
+    requires room { length (run_all (facts_in facts.old) (operations plan)) ≤ facts.old.records }
     ensures { RanPlan facts.old facts.new plan result }
 {
     let path = run_first(facts, plan.first);
     run(facts, plan.second);
     run(facts, plan.third);
-    let array = is_array(facts, path);
+    let array = is_array(&facts.read(), path);
     Ran { path, array }
 }

@@ -1,21 +1,21 @@
 -- The codes of a fact's words, stored one word after the other: what is left to store before each.
 use Prim.Native.Nat.{ℕ, zero, suc, ◌+◌, ◌-◌, ◌*◌, ◌/◌, ◌%◌, ◌≤◌, ◌<◌}
 use mathlib.Core.Path.{◌≡◌, refl, sym, ap, ◌∙◌}
-use mathlib.Core.Bool.{Bool, true, false, false≢true, cond, not, ◌||◌}
+use mathlib.Core.Bool.{Bool, true, false, false≢true, cond, ◌&&◌, and-eq-true_iff}
 use mathlib.Core.Logic.{inl, inr, ⊎_elim}
 use mathlib.Core.List.{List, [], ◌∷◌, ◌++◌}
 use native.Mathlib.Omega.{arith}
 use native.Mathlib.Nat.{add-zero}
-use lib.Dec.{eqb, ltb}
+use lib.Dec.{eqb, leb}
 use lib.ListN.{length, replicate, length-append, length-replicate}
 use lib.Seq.{sets, length-sets}
-use borrow.Author.Tests.{eq-eqb, ne_eqb, eqb-true, eqb-false, ltb-true, ltb-false}
+use borrow.Author.Tests.{eq-eqb, ne_eqb, eqb-true, eqb-false, leb-true, leb-false}
 use Rattle.limits.specs.Limits.{word_bytes, types_room}
 use Rattle.spell.proofs.Stores.{sets_append}
 use Rattle.names.specs.Elementary.{code_of}
 use Rattle.types.specs.Codes.{codes, all_codes}
 use Rattle.types.proofs.Sizes.{count_codes}
-use Rattle.facts.specs.Table.{key_of}
+use Rattle.facts.specs.Table.{key_of, next_of, child_of}
 use Rattle.facts.specs.Links.{Kid, In, Rising}
 use Rattle.facts.specs.Sound.{Sound}
 use Rattle.facts.specs.State.{Node, nodes, node_of, kids_in}
@@ -23,7 +23,8 @@ use Rattle.facts.proofs.Chains.{rising_low}
 use Rattle.facts.proofs.Encode.{nodes_get, kids_nodes}
 use Rattle.facts.proofs.Kids.{kids_rising, in_kids}
 use Rattle.paths.specs.Find.{find_in}
-use Rattle.paths.proofs.Chaining.{left_kid}
+use Rattle.paths.specs.Walking.{from_on}
+use Rattle.paths.proofs.Chaining.{left_all, left_more, left_none, left_kid}
 use Rattle.paths.proofs.Frame.{sound_shaped}
 use Rattle.paths.proofs.Finds.{found_is}
 use Rattle.list.specs.Types.{uint256, has_word, words_with, type_of, word_types}
@@ -72,6 +73,10 @@ gap_codes s r w (suc n) end l none =
     ∙ ap (λ (cs : List ℕ). word_code ∷ cs) (gap_codes s r (w + 1) n end (omega arith) (λ v a b. none v (omega arith) (omega arith)))
     ∙ ap (λ (m : ℕ). word_code ∷ (replicate n word_code ++ codes_to s r m end)) k
 
+-- the children from c on
+abbrev pub kids_from : List Node → ℕ → ℕ → List ℕ
+kids_from s r c = from_on c (kids_in s r)
+
 -- what is known of the call: the codes cs are to be stored in the list types₀ from index `at` on, and have room there
 pub record Called (t : List ℕ) (u N r : ℕ) (types₀ : List ℕ) (at : ℕ) (cs : List ℕ) : Type 0 where
   pub sound : Sound t u N
@@ -92,23 +97,42 @@ pub record Writing (t : List ℕ) (u N r end : ℕ) (types₀ : List ℕ) (at : 
   pub rising : Rising t low ms
   pub rest : (m v : ℕ) → Kid t u r m → key_of t m ≡ word_bytes * v → next ≤ v → In m ms
 
-pub writing_start : (t : List ℕ) (u N r start words : ℕ) (types : List ℕ) (at : ℕ) (ms : List ℕ)
-    → Called t u N r types at (all_codes (word_types (nodes t u) r start words)) → ms ≡ kids_in (nodes t u) r
-    → Writing t u N r (start + words) types at (all_codes (word_types (nodes t u) r start words)) types at start ms
-writing_start t u N r start words types at ms C e =
+pub writing_start : (t : List ℕ) (u N r start words : ℕ) (types : List ℕ) (at c : ℕ)
+    → Called t u N r types at (all_codes (word_types (nodes t u) r start words)) → c ≡ child_of t r
+    → Writing t u N r (start + words) types at (all_codes (word_types (nodes t u) r start words)) types at start (kids_from (nodes t u) r c)
+    × ((c ≡ 0 → ⊥) → Kid t u r c)
+writing_start t u N r start words types at c C e =
     let n : start + words - start ≡ words = omega arith in
     let L = (sound_shaped t u N C.sound).linked in
-    let q = e ∙ kids_nodes t u r in
-    record {
-      call = C;
-      most = omega arith;
-      left = rw n refl;
-      ends = rw n refl;
-      kids = λ m i. left_kid t u r m (rw e at i);
-      low = 0;
-      rising = rw q (kids_rising t r u (λ a b. L.distinct r a b C.from) u (omega arith));
-      rest = λ m v K d l. rw q (in_kids t r u m K);
-    }
+    let a = left_all t u r L C.from C.used c e in
+    let q = a ∙ kids_nodes t u r in (
+      record {
+        call = C;
+        most = omega arith;
+        left = rw n refl;
+        ends = rw n refl;
+        kids = λ m i. left_kid t u r m (rw a at i);
+        low = 0;
+        rising = rw q (kids_rising t r u (λ a b. L.distinct r a b C.from) u (omega arith));
+        rest = λ m v K d l. rw q (in_kids t r u m K);
+      },
+      λ n. rw e ((L.child r C.from C.used).kid (rw e at n)),
+    )
+
+-- the chain goes on behind a child
+module _ {t : List ℕ} {u N r end : ℕ} {types₀ : List ℕ} {at : ℕ} {cs types : List ℕ} {to next c : ℕ}
+    (W : Writing t u N r end types₀ at cs types to next (kids_from (nodes t u) r c)) where
+  pub steps : Kid t u r c → {d : ℕ} → d ≡ next_of t c → kids_from (nodes t u) r c ≡ c ∷ kids_from (nodes t u) r d
+  steps K e = left_more t u r (sound_shaped t u N W.call.sound).linked W.call.from W.call.used c _ K e
+
+  pub fewer : Kid t u r c → {d : ℕ} → d ≡ next_of t c → length (kids_from (nodes t u) r d) < length (kids_from (nodes t u) r c)
+  fewer K e = let l = ap (λ (l : List ℕ). length l) (steps K e) in omega arith
+
+  pub next_kid : Kid t u r c → {d : ℕ} → d ≡ next_of t c → (d ≡ 0 → ⊥) → Kid t u r d
+  next_kid K e n = rw e (((sound_shaped t u N W.call.sound).linked.next r c W.call.from K).kid (rw e at n))
+
+  pub no_steps : c ≡ 0 → kids_from (nodes t u) r c ≡ []
+  no_steps e = left_none t u r (sound_shaped t u N W.call.sound).linked W.call.from W.call.used c e
 
 -- each record of the list has the key k or a higher one
 abbrev pub Above : List ℕ → ℕ → List ℕ → Type 0
@@ -243,14 +267,15 @@ module _ {t : List ℕ} {u N r end : ℕ} {types₀ : List ℕ} {at : ℕ} {cs t
           long = let z = L.size ∙ size in let b = W.call.long in omega arith;
         }
 
-        pub writing_next : {types₂ : List ℕ} {to₂ : ℕ} → types₂ ≡ sets types₁ a.to (all_codes (word_types (nodes t u) c a.start a.words))
-            → to₂ ≡ a.to + length (all_codes (word_types (nodes t u) c a.start a.words)) → Writing t u N r end types₀ at cs types₂ to₂ (next + 1) ns
-        writing_next e q =
-            behind_first (next + 1) (omega arith) (omega arith)
+        pub writing_next : {types₂ : List ℕ} {to₂ next₂ : ℕ} → types₂ ≡ sets types₁ a.to (all_codes (word_types (nodes t u) c a.start a.words))
+            → to₂ ≡ a.to + length (all_codes (word_types (nodes t u) c a.start a.words)) → next₂ ≡ next + 1
+            → Writing t u N r end types₀ at cs types₂ to₂ next₂ ns
+        writing_next e q n = rw n
+            (behind_first (next + 1) (omega arith) (omega arith)
             ((λ k. sets ((e ∙ L.left) k) ((q ∙ L.ends) k) (codes_to (nodes t u) r (next + 1) end))
             ∙ sym (sets_append types to (codes (word_type (nodes t u) c)) _) ∙ ap (sets types to) (sym split) ∙ W.left)
             (let l = split_length in let d = W.ends in let f = L.ends in omega arith)
-            (λ v w l. omega arith)
+            (λ v w l. omega arith))
 
     -- by the key k that the code reads
     module _ {k : ℕ} (e : k ≡ (node_of (nodes t u) c).key) where
@@ -262,27 +287,24 @@ module _ {t : List ℕ} {u N r end : ℕ} {types₀ : List ℕ} {at : ℕ} {cs t
       above_kid l = above_first _ (let d = key_is in let m = W.most in omega arith)
 
       -- c stands at no word that is left
-      pub writing_passed : (ltb (k / word_bytes) next || not (eqb (k % word_bytes) 0)) ≡ true → Writing t u N r end types₀ at cs types to next ns
-      writing_passed q =
-          behind_first next (omega arith) W.most W.left W.ends
-          (λ v d l. go (ltb (k / word_bytes) next) refl (eqb (k % word_bytes) 0) refl q v (key_is ∙ d) l)
+      pub writing_passed : (leb next (k / word_bytes) && eqb (k % word_bytes) 0) ≡ false
+          → {types' : List ℕ} {to' next' : ℕ} → types' ≡ types → to' ≡ to → next' ≡ next → Writing t u N r end types₀ at cs types' to' next' ns
+      writing_passed q a b n = rw (a, b, n)
+          (behind_first next (omega arith) W.most W.left W.ends
+          (λ v d l. go (leb next (k / word_bytes)) refl (eqb (k % word_bytes) 0) refl q v (key_is ∙ d) l))
         where
-          go : (a : Bool) → ltb (k / word_bytes) next ≡ a → (b : Bool) → eqb (k % word_bytes) 0 ≡ b → (a || not b) ≡ true
+          go : (a : Bool) → leb next (k / word_bytes) ≡ a → (b : Bool) → eqb (k % word_bytes) 0 ≡ b → (a && b) ≡ false
               → (v : ℕ) → k ≡ word_bytes * v → next ≤ v → ⊥
-          go true w b z q v d l = let h = ltb-true (k / word_bytes) next w in omega arith
-          go false w true z q v d l = false≢true q
-          go false w false z q v d l = eqb-false (k % word_bytes) 0 z (omega arith)
+          go true w true z q v d l = false≢true (sym q)
+          go true w false z q v d l = eqb-false (k % word_bytes) 0 z (omega arith)
+          go false w b z q v d l = let h = leb-false next (k / word_bytes) w in omega arith
 
       -- c stands at a word that is left
-      module _ (less : k / word_bytes < end) (q : (ltb (k / word_bytes) next || not (eqb (k % word_bytes) 0)) ≡ false) where
+      module _ (less : k / word_bytes < end) (q : (leb next (k / word_bytes) && eqb (k % word_bytes) 0) ≡ true) where
         at_word : (next ≤ k / word_bytes) × (k % word_bytes ≡ 0)
-        at_word = go (ltb (k / word_bytes) next) refl (eqb (k % word_bytes) 0) refl q
-          where
-            go : (a : Bool) → ltb (k / word_bytes) next ≡ a → (b : Bool) → eqb (k % word_bytes) 0 ≡ b → (a || not b) ≡ false
-                → (next ≤ k / word_bytes) × (k % word_bytes ≡ 0)
-            go true w b z q = absurd (false≢true (sym q))
-            go false w true z q = (ltb-false (k / word_bytes) next w, eqb-true (k % word_bytes) 0 z)
-            go false w false z q = absurd (false≢true (sym q))
+        at_word =
+            let e = (and-eq-true_iff (leb next (k / word_bytes)) (eqb (k % word_bytes) 0)).0 q in
+            (leb-true next (k / word_bytes) e.0, eqb-true (k % word_bytes) 0 e.1)
 
         word_key : key_of t c ≡ word_bytes * (k / word_bytes)
         word_key = let d = key_is in let z = at_word.1 in omega arith

@@ -71,7 +71,8 @@ fn write_ahead(facts: &Facts, c: u32, types: &mut [u16], at: usize) -> Rest
 
 // Stores the codes of so many words of a fact from one on, and answers the index behind them. A child at a word's key
 // has that word's codes: what stands ahead is stored, and a call of its own stores the words that follow. The words
-// before it that have no child, and those behind the last one, have uint256. A child's number is higher than the
+// before it that have no child, and those behind the last one, have uint256. Where a child's number follows the one
+// before, the walk counts on instead of waiting for the number that it loads. A child's number is higher than the
 // parent's, so that fewer numbers are left above it.
 pub fn write_words(
     facts: &Facts,
@@ -92,22 +93,31 @@ pub fn write_words(
     let end = start + words;
     let mut next = start;
     let mut to = at;
-    for c in facts.children(r) {
-        let key = facts.key(c);
-        let word = key / WORD_BYTES;
-        if end <= word {
-            break;
+    let mut child = facts.child(r);
+    while child != 0 {
+        let mut c = child;
+        loop {
+            let key = facts.key(c);
+            let word = key / WORD_BYTES;
+            if end <= word {
+                return write_gap(types, to, end - next);
+            }
+            if (next <= word) & (key % WORD_BYTES == 0) {
+                to = write_gap(types, to, word - next);
+                let ahead = write_ahead(facts, c, types, to);
+                to = ahead.to;
+                if ahead.words != 0 {
+                    to = write_words(facts, c, ahead.start, ahead.words, types, to);
+                }
+                next = word + 1;
+            }
+            let follow = c as usize + 1;
+            child = facts.next(c);
+            if child as usize != follow {
+                break;
+            }
+            c = follow as u32;
         }
-        if (word < next) | (key % WORD_BYTES != 0) {
-            continue;
-        }
-        to = write_gap(types, to, word - next);
-        let ahead = write_ahead(facts, c, types, to);
-        to = ahead.to;
-        if ahead.words != 0 {
-            to = write_words(facts, c, ahead.start, ahead.words, types, to);
-        }
-        next = word + 1;
     }
     write_gap(types, to, end - next)
 }

@@ -1,6 +1,6 @@
 use Rattle.std.proofs.Common.{arith, ◌*◌}
 use Rattle.limits.specs.Limits.{word_bytes}
-use Rattle.paths.specs.Lent.{facts_of}
+use Rattle.paths.specs.Lent.{facts_in}
 use Rattle.paths.proofs.Spotting.{before_none}
 use Rattle.paths.proofs.Lending.{same_stays, same_then}
 use Rattle.kinds.proofs.FillLaws.{filling_start, filling_room, filling_next, filling_done}
@@ -20,7 +20,7 @@ loop-i-preserved c =
     let I = c.loop-i.invariant in
     let E = c.get_or_create_after-prev.ensures in (
       filling_next _ _ _ _ _ _ I.0 _ _ c.loop-i-test.true E.state,
-      made_before (facts_of c.loop-i.facts) 1 (word_bytes * c.loop-i.i) _ _ _ _ _ (omega arith) (omega arith)
+      made_before (facts_in c.loop-i.facts) 1 (word_bytes * c.loop-i.i) _ _ _ _ _ (omega arith) (omega arith)
           c.get_or_create_after-prev.new.self.shaped E.state E.number E.range.0 E.range.1,
       same_then _ _ _ I.2 E.same,
     )

@@ -17,14 +17,14 @@ loop-i-preserved c =
     let key = word_bytes * c.loop-i.i in
     elim c.match-find_at.branch [
       | in-Some w ↦
-          let E = w.in-Some.ensures in
+          let E = rw (c.links-links.ensures.0, c.links-links.ensures.1) at w.in-Some.ensures in
           let there : w.in-Some.c ≡ 0 → ⊥ = λ z. let l = E.used.0 in absurd (omega arith) in
           let same : a ≡ c.loop-i.absent + 0 = omega arith in (
             rw same (lacking_next _ _ _ _ _ key I.0 c.loop-i-test.true refl (missing_some _ _ _ _ E.value there) (omega arith)),
             rw w.prev-is (found_before _ _ _ _ key _ _ c.args.facts.now.shaped (omega arith) E.value there (omega arith)),
           )
       | in-None w ↦ (
-        rw w.absent-is (lacking_next _ _ _ _ _ key I.0 c.loop-i-test.true refl (missing_none _ _ _ 0 w.in-None.ensures.value refl) (omega arith)),
-        rw w.prev-is (before_up _ _ _ _ _ _ (omega arith) c.place-spot.ensures.before),
+        rw w.absent-is (lacking_next _ _ _ _ _ key I.0 c.loop-i-test.true refl (missing_none _ _ _ 0 (rw (c.links-links.ensures.0, c.links-links.ensures.1) at w.in-None.ensures.value) refl) (omega arith)),
+        rw w.prev-is (before_up _ _ _ _ _ _ (omega arith) (rw (c.links-links.ensures.0, c.links-links.ensures.1) at c.place-spot.ensures.before)),
       )
     ]

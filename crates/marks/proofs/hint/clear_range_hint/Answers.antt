@@ -7,7 +7,7 @@ use Rattle.marks.proofs.hint.clear_range_hint.Goals as goal
 pub returns-in-Some : goal.returns-in-Some
 unfolding clear_range_hint
 returns-in-Some c =
-    let E = c.in-Some.ensures in
+    let E = rw (c.read.ensures.0, c.read.ensures.2) at c.in-Some.ensures in
     rw (← E.value, ne_eqb c.in-Some.c 0 (λ z. let l = E.used.0 in absurd (omega arith))) c.clear_at.ensures
 
 pub returns-in_default : goal.returns-in_default

@@ -31,11 +31,11 @@ returns-in-ClearRangeHints c = rw c.in-ClearRangeHints.is (grows_so _ _ _ c.clea
 
 pub returns-in-MarkNotBool : goal.returns-in-MarkNotBool
 unfolding run
-returns-in-MarkNotBool c = rw c.in-MarkNotBool.is (c.mark_not_bool.ensures)
+returns-in-MarkNotBool c = rw c.in-MarkNotBool.is c.mark_not_bool.ensures.grows
 
 pub returns-in-InsertNotBool : goal.returns-in-InsertNotBool
 unfolding run
-returns-in-InsertNotBool c = rw c.in-InsertNotBool.is (c.insert_not_bool.ensures)
+returns-in-InsertNotBool c = rw c.in-InsertNotBool.is c.insert_not_bool.ensures.grows
 
 pub returns-in-GetOrCreate : goal.returns-in-GetOrCreate
 unfolding run
@@ -43,7 +43,7 @@ returns-in-GetOrCreate c = rw c.in-GetOrCreate.is (record { state = c.get_or_cre
 
 pub returns-in-SetTname : goal.returns-in-SetTname
 unfolding run
-returns-in-SetTname c = rw c.in-SetTname.is (c.set_tname.ensures)
+returns-in-SetTname c = rw c.in-SetTname.is c.set_tname.ensures.grows
 
 pub returns-in-SetArray : goal.returns-in-SetArray
 unfolding run

@@ -1,8 +1,14 @@
-use Rattle.std.proofs.Common.{refl, rules}
+use Rattle.std.proofs.Common.{refl, rules, arith}
 use Rattle.paths.proofs.Frame.{sound_shaped}
 use Rattle.head.proofs.Asking.{admitted_sound}
 use Rattle.step.proofs.Taking.{hints_reach_lem, hints_room, plan_reach, plan_room, stack_asks, memory_asks, taken}
 use Rattle.step.proofs.arrive.take.Goals as goal
+
+pub invariant_of-read : goal.invariant_of-read
+invariant_of-read c = record {
+  shaped = sound_shaped _ _ _ (admitted_sound _ _ c.in_ok-records.ensures);
+  fits = omega arith;
+}
 
 pub invariant_of-facts-clause-shaped : goal.invariant_of-facts-clause-shaped
 invariant_of-facts-clause-shaped c = sound_shaped _ _ _ (admitted_sound _ _ c.in_ok-records.ensures)
