@@ -1,11 +1,12 @@
 // A chain of children.
-ghost use Rattle.std.specs.Prelude.{◌≡◌, ◌≤◌, ◌≢◌};
+ghost use Rattle.std.specs.Prelude.{◌≡◌, ◌<◌, ◌≤◌, ◌≢◌, ◌^◌};
 ghost use Rattle.facts.specs.Links.{Kid};
 ghost use Rattle.facts.specs.State.{kids_in};
 
 use crate::{Facts, Links};
 
-// Gives the children of a path, which form a chain, seen or not, by rising key. next is 0 behind the last.
+// Gives the children of a path, which form a chain, seen or not, by rising key. next is 0 behind the last. `fits` says
+// what the type of `links.used` does: where the chain is borrowed, proofs read it here.
 #[derive(Drop)]
 pub struct Chain<'a> {
     links: Links<'a>,
@@ -13,6 +14,7 @@ pub struct Chain<'a> {
     next: u32,
     ghost range: { (1 ≤ parent) × (parent ≤ links.used) },
     ghost kid: { (next ≢ 0) → Kid links.table.now links.used parent next },
+    ghost fits: { links.used < 2 ^ 32 },
 }
 
 impl<'a> Links<'a> {
@@ -23,8 +25,12 @@ impl<'a> Links<'a> {
         requires { (1 ≤ r) × (r ≤ self.now.used) }
         ensures { chain_left result ≡ kids_in (nodes self.now.table.now self.now.used) r }
     {
+        let links = Links {
+            table: self.table,
+            used: self.used,
+        };
         Chain {
-            links: *self,
+            links,
             parent: r,
             next: self.child(r),
         }

@@ -13,7 +13,7 @@ invariant_of-self c =
     let s = c.args.self.now in
     let K = s.kid c.if-self-eq0.false in
     let F = s.links.linked.next _ _ s.range.0 K in
-    record { range = s.range; kid = rw c.next-self.ensures F.kid }
+    record { range = s.range; kid = rw c.next-self.ensures F.kid; fits = s.fits }
 
 pub returns-clause-steps : goal.returns-clause-steps
 returns-clause-steps c =

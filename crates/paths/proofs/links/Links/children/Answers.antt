@@ -1,4 +1,4 @@
-use Rattle.std.proofs.Common.{refl}
+use Rattle.std.proofs.Common.{refl, arith}
 use Rattle.paths.proofs.Chaining.{kid_after, left_all}
 use Rattle.paths.proofs.links.Links.children.Goals as goal
 
@@ -8,6 +8,7 @@ invariant_of-result c =
     record {
       range = p;
       kid = kid_after _ _ _ c.args.self.now.linked p.0 p.1 0 _ (λ m. absurd (m refl)) (λ z. c.child.ensures) (λ m. absurd (m refl));
+      fits = omega arith;
     }
 
 pub returns : goal.returns
